@@ -1,0 +1,14 @@
+pub mod Piece
+pub mod ReturnKind
+pub mod Sema
+pub mod Items
+pub mod Writer
+pub mod Expr
+pub mod Pattern
+pub mod Block
+pub mod Terms
+pub mod Answer
+pub mod TakeOff
+pub mod Cases
+pub mod OddLaws
+pub mod AnswerLaws

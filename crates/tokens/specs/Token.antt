@@ -1,0 +1,38 @@
+-- Tokens of a text: what the code finds between separators. Assumes nothing: these are definitions.
+use Prim.Native.Nat.{ℕ, suc, _-_, min}
+use mathlib.Core.Bool.{Bool, true, false, cond, _&&_}
+use mathlib.Core.Option.{Option, some, none}
+use mathlib.Core.List.{List, [], _∷_}
+use lib.Dec.{eqb}
+use lib.ListN.{length}
+use Rattle.text.specs.Split.{same}
+use Rattle.plan.specs.Layout.{digits, decimal-from, beyond, digit, hex-digit, hex-digits, hex-from}
+use Rattle.tokens.specs.declared.Number.{Number}
+use Rattle.tokens.specs.declared.Number.the-variants.{Value, Wrong}
+
+-- how many bytes stand before the first b
+unfoldable pub until : ℕ → List ℕ → ℕ
+until b [] = 0
+until b (c ∷ s) = let more = suc (until b s) in cond (eqb b c) 0 more
+
+-- the place of a text among names, or their count where it is none of them
+unfoldable pub place : List (List ℕ) → List ℕ → ℕ
+place [] t = 0
+place (n ∷ ns) t = let more = suc (place ns t) in cond (same t n) 0 more
+
+-- a run of digits, after digits that say n
+unfoldable pub numeral : ℕ → List ℕ → Option ℕ
+numeral n s = cond (digits s) (some (min beyond (decimal-from n s))) none
+
+-- what a hexadecimal digit says, 16 for another byte
+unfoldable pub hex-value : ℕ → ℕ
+hex-value c = cond (hex-digit c) (cond (digit c) (c - 48) (c - 87)) 16
+
+-- hexadecimal digits, after digits that say n
+unfoldable pub hex-numeral : ℕ → List ℕ → Option ℕ
+hex-numeral n s = cond (hex-digits s) (some (hex-from n s)) none
+
+-- the code's answer for a number that may not be there
+unfoldable pub told : Option ℕ → Number
+told none = Wrong
+told (some n) = Value n
