@@ -45,9 +45,18 @@ def edges():
              "variants": ["13 0 unit -", "14 0 unit -", "14 0 tuple 1"]}
     quoted = {"syms": ['a"b\\c'], "options": "0 1 0 -", "term": "0 0 1 0 0 in - 0 1"}
     two_empty_arms = ["0 match 0 - -", "1 bool 0 - -", "1 bool 1 - -"]
+    one_arm = ["0 match 0 - -", "1 bool 0 - -", "2 return 0 0 -"]
+    two_arms = one_arm + ["1 bool 1 - -", "2 return 0 0 -"]
     plans = [literals(type_) for type_ in range(14)]
-    plans += [plan([], []), plan(arg, two_empty_arms, "0 0 1 0"),
-              plan(arg, ["0 match 0 - -", "1 bool 0 - -", "2 return 0 0 -"], **quoted)]
+    plans += [plan([], []), plan(arg, one_arm, **quoted)]
+    # Of these, the arms of the third alone split: it is of iterator kind, with bodies.
+    plans += [plan(arg, two_empty_arms, "0 0 1 0"), plan(arg, one_arm, "0 0 1 0"),
+              plan(arg, two_arms, "0 0 1 0"),
+              plan(arg, two_arms, "0 0 1 0", term="0 0 1 0 1 in - 0 1")]
+    # The loop's result is its name inside, and several lines where it isn't bound any more.
+    plans += [plan(arg + ["struct 13 - 0", "iter - - 1"],
+                   ["0 loop 2 - -", "1 return 2 0 -", "0 return 2 0 -"],
+                   types=["tuple 0 0 0 0 1"])]
     plans += [plan(arg, nested(levels)) for levels in (64, 65)]
     plans += [plan(arg, ["0 equal 0 0 -", f"{level} equal 0 0 -"]) for level in (1, 2, 64, "01")]
     plans += [plan(arg + [f"{kind} {field} - 0"], []) for field in (255, 256, "00")

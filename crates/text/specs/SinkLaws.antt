@@ -64,7 +64,7 @@ put-past e t o at h = go (ltb at e) refl
     go true q = rw (view-held e o at (ltb-true at e q), view-past e (sets o at t) (at + length t) h)
     go false q = rw (view-past e o at (ltb-false at e q))
 
--- A text that fits, and is stored.
+-- From a position below `e`: each byte that has a place in the buffer is stored, and all are counted.
 pub puts-held : {e : ℕ} {t o : List ℕ} {at : ℕ} {o' : List ℕ} {at' : ℕ} → at < e → o' ≡ sets o at t → at' ≡ at + length t → Puts e t o at o' at'
 puts-held {e} {t} {o} {at} h q r = record { is = rw (put-held e t o at h, q, r) }
 
@@ -114,10 +114,11 @@ module _ {e : ℕ} {t o : List ℕ} {at : ℕ} {o' : List ℕ} {at' : ℕ} (p : 
       go true q = let y : held o' at' ≡ held (sets o at t) (at + length t) = sym (view-held e o' at' (ltb-true at' e q)) ∙ same in ((cc), (cc))
       go false q = absurd (let y : past ≡ held (sets o at t) (at + length t) = sym (view-past e o' at' (ltb-false at' e q)) ∙ same in let z : _≡_ {A = ℕ} 0 1 = cc in omega arith)
 
-  -- where the buffer has room for it, the text stands there whole, the bytes before and after it are those of before
+  -- where the buffer has room for it, the text stands there whole, and the bytes before and after it are unchanged
   pub puts-written : at + length t < e → at + length t ≤ length o → o' ≡ take at o ++ t ++ drop (at + length t) o
   puts-written h g = puts-fit h .1 ∙ sets-eq t o at g
 
+  -- and it is as long as before
   pub puts-length : at + length t < e → length o' ≡ length o
   puts-length h = ap length (puts-fit h .1) ∙ length-sets o at t
 

@@ -5,7 +5,9 @@ ghost use Prim.Native.Nat.{_+_, _-_, _*_, _/_, _^_, _≤_, _<_};
 ghost use lib.ListN.{length};
 ghost use Rattle.text.specs.Sink.{Puts};
 ghost use Rattle.text.specs.Digits.{digit, decimal, hexadecimal, signed};
-ghost use Rattle.text.specs.DigitsLaws.{padded, Filled, Grouped};
+ghost use Rattle.text.specs.DigitsLaws.{padded};
+ghost use Rattle.text.specs.Filled.{Filled};
+ghost use Rattle.text.specs.Wide.{Grouped};
 use super::sink::put_byte;
 use super::sink::put_bytes;
 

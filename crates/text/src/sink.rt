@@ -4,7 +4,7 @@
 ghost use mathlib.Core.Path.{_≡_};
 ghost use mathlib.Core.List.{[], _∷_};
 ghost use Prim.Native.Nat.{_+_, _-_, _*_, min};
-ghost use lib.ListN.{length, take, drop};
+ghost use lib.ListN.{take, drop};
 ghost use Rattle.text.specs.Sink.{Puts, spaces};
 
 // How many of n bytes from at on a buffer of len bytes has a place for.

@@ -1,0 +1,4 @@
+pub mod Place
+pub mod Emits
+pub mod Pieces
+pub mod Marks

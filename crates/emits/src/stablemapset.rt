@@ -1,0 +1,38 @@
+// `StableSet` of stablemapset.rs, for the numbers of bindings: an array of 1,024 marks, lent.
+// Contracts speak of the set through `set-of` (specs/Marks.antt) alone.
+ghost use mathlib.Core.Path.{_≡_};
+ghost use Rattle.codegen.specs.Terms.{no-marks};
+ghost use Rattle.emits.specs.Marks.{set-of, contains-marked, insert-marked};
+
+// No binding is in the set.
+pub fn empty() -> [bool; 1024]
+    ensures { λ r. ⌜ set-of r ≡ no-marks ⌝ }
+{
+    [false; 1024]
+}
+
+// Is a binding in the set? One that has no place in it is not.
+pub fn contains(set: &[bool; 1024], binding: usize) -> bool
+    ensures { λ r. ⌜ r ≡ contains-marked (set-of (now (set .entry))) binding ⌝ }
+{
+    if binding < 1024 {
+        return set[binding];
+    }
+    false
+}
+
+// A binding that has no place in the set changes nothing.
+pub fn insert(set: &mut [bool; 1024], binding: usize)
+    ensures { λ _. ⌜ set-of (now (set .exit)) ≡ insert-marked (set-of (now (set .entry))) binding ⌝ }
+{
+    if binding < 1024 {
+        set[binding] = true;
+    }
+}
+
+// A scope is entered with a copy of the set, and left by restoring it: `BodyContext::enter_scope`, codegen.rs 128.
+pub fn enter_scope(bound: &[bool; 1024]) -> [bool; 1024]
+    ensures { λ r. ⌜ set-of r ≡ set-of (now (bound .entry)) ⌝ }
+{
+    *bound
+}
