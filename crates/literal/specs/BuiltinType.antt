@@ -2,6 +2,7 @@
 use Prim.Native.Nat.{ℕ}
 use Prim.Native.String.{String}
 use mathlib.Core.Bool.{Bool, true, false}
+use mathlib.Core.Option.{Option, some, none}
 use mathlib.Core.List.{List, [], _∷_}
 use Rattle.literal.specs.declared.builtin_type.IntType.{IntType}
 use Rattle.literal.specs.declared.builtin_type.IntType.the-variants.{U8, U16, U32, U64, U128, USize, I8, I16, I32, I64, I128, ISize}
@@ -64,3 +65,24 @@ bits I32 = 32
 bits I64 = 64
 bits I128 = 128
 bits ISize = 64
+
+-- sema.rs 196: `BuiltinType::to_usize`
+abbrev pub to-usize : BuiltinType → ℕ
+to-usize builtin.Bool = 0
+to-usize (builtin.Int U8) = 1
+to-usize (builtin.Int U16) = 2
+to-usize (builtin.Int U32) = 3
+to-usize (builtin.Int U64) = 4
+to-usize (builtin.Int U128) = 5
+to-usize (builtin.Int USize) = 6
+to-usize (builtin.Int I8) = 7
+to-usize (builtin.Int I16) = 8
+to-usize (builtin.Int I32) = 9
+to-usize (builtin.Int I64) = 10
+to-usize (builtin.Int I128) = 11
+to-usize (builtin.Int ISize) = 12
+
+-- the integer type, if it is one
+abbrev pub builtin-int : BuiltinType → Option IntType
+builtin-int builtin.Bool = none
+builtin-int (builtin.Int t) = some t

@@ -1,5 +1,7 @@
 pub mod BuiltinType
 pub mod BuiltinTypeLaws
+pub mod CastLaws
+pub mod Extend
 pub mod Literal
 pub mod Quote
 pub mod QuoteLaws

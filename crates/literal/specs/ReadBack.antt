@@ -1,12 +1,12 @@
 -- Each literal and each quoted text, read by the Rust Reference, is what it was written from; and which literals are odd.
 -- Assumes nothing.
-use Prim.Native.Nat.{ℕ, _+_, _-_, _%_, _^_, _<_}
+use Prim.Native.Nat.{ℕ, _%_, _^_, _<_}
 use mathlib.Core.Path.{_≡_, refl, ap, _∙_}
-use mathlib.Core.Bool.{Bool, true, false, cond, _&&_}
+use mathlib.Core.Bool.{Bool, true, false}
 use mathlib.Core.Option.{Option, some, none}
 use mathlib.Core.List.{List, [], _++_, append-nil}
 use native.Mathlib.Nat.{mod-eq-of-lt, mod-lt, mod-mod, one-le-pow}
-use lib.Dec.{leb, ltb, lit≤}
+use lib.Dec.{ltb, lit≤}
 use borrow.Author.Tests.{ltb-true, ltb-false, lt-ltb, le-leb, not-false}
 use Rattle.text.specs.Codes.{codes}
 use Rattle.text.specs.Digits.{signed}
@@ -17,6 +17,7 @@ use Rattle.literal.specs.BuiltinType.{is-signed, bits}
 use Rattle.literal.specs.Literal.{rust-int-literal, literal, in-range, odd}
 use Rattle.literal.specs.Quote.{escaped, quoted}
 use Rattle.literal.specs.Reference.{Value, typed, untyped, cast, type-named, digits-of, suffix-of, integer-value, string-value}
+use Rattle.literal.specs.Extend.{extend}
 use Rattle.literal.specs.ReadBackLaws.{read-written, read-hexadecimal, extend-signed, unchanged-signed, written-width}
 use Rattle.literal.specs.QuoteLaws.{printable, unmarked, append-escaped, unmarked-escaped, read-escaped}
 
@@ -30,10 +31,6 @@ read-back t v = read-written t v
 pub read-back-untyped : (v : ℕ) → v < 2 ^ 128 → integer-value (literal none v) ≡ some (untyped v)
 unfolding literal cast type-named same digits-of suffix-of
 read-back-untyped v h = rw append-nil at (read-hexadecimal v [] [] h refl refl)
-
--- The value n of the type t, as a two's complement of 128 bits: the type's sign bit is copied to the left.
-unfoldable pub extend : IntType → ℕ → ℕ
-extend t n = cond (is-signed t && leb (2 ^ (bits t - 1)) n) (n + (2 ^ 128 - 2 ^ bits t)) n
 
 -- What an expression's value stands for among the values of 128 bits.
 unfoldable pub extended : Option Value → Option ℕ

@@ -16,7 +16,7 @@ use Rattle.literal.specs.declared.builtin_type.IntType.{IntType}
 use Rattle.literal.specs.declared.builtin_type.IntType.the-variants.{U8, U16, U32, U64, U128, USize, I8, I16, I32, I64, I128, ISize}
 use Rattle.literal.specs.BuiltinType.{int-name, is-signed, bits}
 use Rattle.literal.specs.Literal.{written-bits, rust-int-literal}
-use Rattle.literal.specs.Reference.{digit-value, radix, unprefixed, digits-of, suffix-of, number, underscore, int-types, type-named, typed, cast, literal-value, negated, integer-value}
+use Rattle.literal.specs.Reference.{digit-value, radix, unprefixed, digits-of, suffix-of, number, underscore, int-types, type-named, typed, cast, begins-literal, literal-value, negated, integer-value}
 
 -- A DIGIT
 
@@ -113,11 +113,12 @@ only-suffix b h (word c s v u) = rw (le-ltb 16 b h, v, le-ltb 16 b h, u)
 
 -- THE TYPES
 
--- what is computed of each type: its name is a word and known, and its width divides the one that it is written with, at most 128
+-- what is computed of each type: its name is a word and known, and its width divides the one that it is written with, 1 to 128
 record Computed (t : IntType) : Type 0 where
   name : Word (codes (int-name t))
   known : type-named int-types (codes (int-name t)) ≡ some t
   divides : 2 ^ written-bits t ≡ 2 ^ (written-bits t - bits t) * 2 ^ bits t
+  some-bits : 1 ≤ written-bits t
   most : written-bits t ≤ 128
   -- half of the type's values, and how often they go into those of 128 bits after the first time
   halves : 2 ^ (bits t - 1) + 2 ^ (bits t - 1) ≡ 2 ^ bits t
@@ -125,18 +126,21 @@ record Computed (t : IntType) : Type 0 where
 
 computed : (t : IntType) → Computed t
 unfolding digit-value type-named same
-computed U8 = record { name = word _ _ refl refl; known = refl; divides = refl; most = lit≤ tt; halves = refl; times = refl }
-computed U16 = record { name = word _ _ refl refl; known = refl; divides = refl; most = lit≤ tt; halves = refl; times = refl }
-computed U32 = record { name = word _ _ refl refl; known = refl; divides = refl; most = lit≤ tt; halves = refl; times = refl }
-computed U64 = record { name = word _ _ refl refl; known = refl; divides = refl; most = lit≤ tt; halves = refl; times = refl }
-computed U128 = record { name = word _ _ refl refl; known = refl; divides = refl; most = lit≤ tt; halves = refl; times = refl }
-computed USize = record { name = word _ _ refl refl; known = refl; divides = refl; most = lit≤ tt; halves = refl; times = refl }
-computed I8 = record { name = word _ _ refl refl; known = refl; divides = refl; most = lit≤ tt; halves = refl; times = refl }
-computed I16 = record { name = word _ _ refl refl; known = refl; divides = refl; most = lit≤ tt; halves = refl; times = refl }
-computed I32 = record { name = word _ _ refl refl; known = refl; divides = refl; most = lit≤ tt; halves = refl; times = refl }
-computed I64 = record { name = word _ _ refl refl; known = refl; divides = refl; most = lit≤ tt; halves = refl; times = refl }
-computed I128 = record { name = word _ _ refl refl; known = refl; divides = refl; most = lit≤ tt; halves = refl; times = refl }
-computed ISize = record { name = word _ _ refl refl; known = refl; divides = refl; most = lit≤ tt; halves = refl; times = refl }
+computed U8 = record { name = word _ _ refl refl; known = refl; divides = refl; some-bits = lit≤ tt; most = lit≤ tt; halves = refl; times = refl }
+computed U16 = record { name = word _ _ refl refl; known = refl; divides = refl; some-bits = lit≤ tt; most = lit≤ tt; halves = refl; times = refl }
+computed U32 = record { name = word _ _ refl refl; known = refl; divides = refl; some-bits = lit≤ tt; most = lit≤ tt; halves = refl; times = refl }
+computed U64 = record { name = word _ _ refl refl; known = refl; divides = refl; some-bits = lit≤ tt; most = lit≤ tt; halves = refl; times = refl }
+computed U128 = record { name = word _ _ refl refl; known = refl; divides = refl; some-bits = lit≤ tt; most = lit≤ tt; halves = refl; times = refl }
+computed USize = record { name = word _ _ refl refl; known = refl; divides = refl; some-bits = lit≤ tt; most = lit≤ tt; halves = refl; times = refl }
+computed I8 = record { name = word _ _ refl refl; known = refl; divides = refl; some-bits = lit≤ tt; most = lit≤ tt; halves = refl; times = refl }
+computed I16 = record { name = word _ _ refl refl; known = refl; divides = refl; some-bits = lit≤ tt; most = lit≤ tt; halves = refl; times = refl }
+computed I32 = record { name = word _ _ refl refl; known = refl; divides = refl; some-bits = lit≤ tt; most = lit≤ tt; halves = refl; times = refl }
+computed I64 = record { name = word _ _ refl refl; known = refl; divides = refl; some-bits = lit≤ tt; most = lit≤ tt; halves = refl; times = refl }
+computed I128 = record { name = word _ _ refl refl; known = refl; divides = refl; some-bits = lit≤ tt; most = lit≤ tt; halves = refl; times = refl }
+computed ISize = record { name = word _ _ refl refl; known = refl; divides = refl; some-bits = lit≤ tt; most = lit≤ tt; halves = refl; times = refl }
+
+pub written-most : (t : IntType) → (1 ≤ written-bits t) × (written-bits t ≤ 128)
+written-most t = (computed t .some-bits, computed t .most)
 
 pub written-width : (t : IntType) → (t ≡ USize → ⊥) → (t ≡ ISize → ⊥) → written-bits t ≡ bits t
 written-width U8 f g = refl
@@ -155,14 +159,14 @@ written-width ISize f g = absurd (g refl)
 -- A LITERAL
 
 -- a text that is a number and then its suffix
-pub literal-value-is : (b n : ℕ) (s ds rest name : List ℕ) → Reads b n ds → n < 2 ^ 128 → radix s ≡ b → unprefixed s ≡ ds ++ rest → digits-of b rest ≡ [] → suffix-of b rest ≡ name → literal-value s ≡ cast (type-named int-types name) (null name) n
+pub literal-value-is : (b n : ℕ) (s ds rest name : List ℕ) → Reads b n ds → n < 2 ^ 128 → begins-literal s ≡ true → radix s ≡ b → unprefixed s ≡ ds ++ rest → digits-of b rest ≡ [] → suffix-of b rest ≡ name → literal-value s ≡ cast (type-named int-types name) (null name) n
 unfolding literal-value number
-literal-value-is b n s ds rest name r h p q e f =
-    rw (p, q, r .some-digit rest, r .value rest, r .suffix rest, e, f, lt-leb (2 ^ 128) n h)
+literal-value-is b n s ds rest name r h i p q e f =
+    rw (i, p, q, r .some-digit rest, r .value rest, r .suffix rest, e, f, lt-ltb n (2 ^ 128) h)
 
 -- a text that is a decimal number, as far as its first two characters tell: no sign, and none of `0x`, `0o` and `0b`
 pub data Starts : List ℕ → Type 0 where
-  starts : (c d : ℕ) (s : List ℕ) → 48 ≤ c → d < 98 → Starts (c ∷ d ∷ s)
+  starts : (c d : ℕ) (s : List ℕ) → 48 ≤ c → c ≤ 57 → d < 98 → Starts (c ∷ d ∷ s)
 
 digit-below : (d : ℕ) → d < 10 → digit d < 98
 digit-below d h = rw (lt-ltb d 10 h) (omega arith)
@@ -173,19 +177,22 @@ starts-digits zero n x rest l h = absurd (omega arith)
 starts-digits (suc k) n x rest l h = go (ltb n 10) refl (starts-digits k (n / 10))
   where
     go : (t : Bool) → ltb n 10 ≡ t → ((y : ℕ) (s : List ℕ) → n / 10 < k → y < 98 → Starts (digits 10 k (n / 10) ++ (y ∷ s))) → Starts (digits 10 (suc k) n ++ (x ∷ rest))
-    go true q f = rw q (starts (n + 48) x rest (omega arith) h)
+    go true q f = let m : n < 10 = ltb-true n 10 q in rw q (starts (n + 48) x rest (omega arith) (omega arith) h)
     go false q f =
         let m : 10 ≤ n = ltb-false n 10 q in
         rw (q, append-assoc) (f (digit (n % 10)) (x ∷ rest) (omega arith) (digit-below (n % 10) (omega arith)))
 
 pub starts-radix : {s : List ℕ} → Starts s → radix s ≡ 10
 unfolding radix starts-with
-starts-radix (starts c d s h g) =
+starts-radix (starts c d s h l g) =
     rw (ne-eqb 120 d (λ e. omega arith), ne-eqb 111 d (λ e. omega arith), ne-eqb 98 d (λ e. omega arith), and-false (eqb 48 c))
+
+starts-begins : {s : List ℕ} → Starts s → begins-literal s ≡ true
+starts-begins (starts c d s h l g) = rw (le-leb 48 c h, le-leb c 57 l)
 
 pub starts-unsigned : {s : List ℕ} → Starts s → integer-value s ≡ literal-value s
 unfolding integer-value
-starts-unsigned (starts c d s h g) = rw (ne-eqb c 45 (λ e. omega arith))
+starts-unsigned (starts c d s h l g) = rw (ne-eqb c 45 (λ e. omega arith))
 
 -- A NUMBER CAST TO A WIDTH
 
@@ -210,7 +217,7 @@ negate-twice m c q b h e =
 pub read-hexadecimal : (n : ℕ) (rest name : List ℕ) → n < 2 ^ 128 → digits-of 16 rest ≡ [] → suffix-of 16 rest ≡ name → integer-value (codes "0x" ++ hexadecimal n ++ rest) ≡ cast (type-named int-types name) (null name) n
 unfolding integer-value radix starts-with unprefixed hexadecimal
 read-hexadecimal n rest name h e f =
-    literal-value-is 16 n (codes "0x" ++ hexadecimal n ++ rest) (hexadecimal n) rest name (reads-digits 16 (suc n) n (lit≤ tt) (lit≤ tt) (omega arith)) h refl refl e f
+    literal-value-is 16 n (codes "0x" ++ hexadecimal n ++ rest) (hexadecimal n) rest name (reads-digits 16 (suc n) n (lit≤ tt) (lit≤ tt) (omega arith)) h refl refl refl e f
 
 module _ (t : IntType) where
   abbrev pub suffix-text : List ℕ
@@ -231,7 +238,7 @@ module _ (t : IntType) where
   read-decimal n h =
       let c = computed t in
       let p : radix (decimal n ++ suffix-text) ≡ 10 = starts-radix (starts-decimal n) in
-      rw (c .known) at (literal-value-is 10 n (decimal n ++ suffix-text) (decimal n) suffix-text (codes (int-name t)) (reads-digits 10 (suc n) n (lit≤ tt) (lit≤ tt) (omega arith)) h p (rw p) (no-digits 10 (lit≤ tt) (c .name)) (only-suffix 10 (lit≤ tt) (c .name)))
+      rw (c .known) at (literal-value-is 10 n (decimal n ++ suffix-text) (decimal n) suffix-text (codes (int-name t)) (reads-digits 10 (suc n) n (lit≤ tt) (lit≤ tt) (omega arith)) h (starts-begins (starts-decimal n)) p (rw p) (no-digits 10 (lit≤ tt) (c .name)) (only-suffix 10 (lit≤ tt) (c .name)))
 
   read-minus : (n : ℕ) → is-signed t ≡ true → n < 2 ^ 128 → integer-value (45 ∷ decimal n ++ suffix-text) ≡ some (typed t ((2 ^ bits t - n % 2 ^ bits t) % 2 ^ bits t))
   unfolding integer-value negated

@@ -1,7 +1,7 @@
 -- What literals mean by the Rust Reference, chapters "Tokens" and "Literal expressions". Nothing here knows the emitter.
 -- Assumes nothing: these are definitions.
 use Prim.Native.Nat.{ℕ, _+_, _-_, _*_, _%_, _^_}
-use mathlib.Core.Bool.{Bool, true, false, cond, _&&_, _||_}
+use mathlib.Core.Bool.{Bool, true, false, cond, not, _&&_, _||_}
 use mathlib.Core.Option.{Option, some, none}
 use mathlib.Core.List.{List, [], _∷_}
 use lib.Dec.{leb, ltb, eqb}
@@ -67,13 +67,18 @@ unfoldable pub cast : Option IntType → Bool → ℕ → Option Value
 cast none plain n = cond plain (some (untyped n)) none
 cast (some t) plain n = some (typed t (n % 2 ^ bits t))
 
+-- "DEC_LITERAL → DEC_DIGIT ( DEC_DIGIT | _ )*", and every prefix begins with 0
+abbrev pub begins-literal : List ℕ → Bool
+begins-literal [] = false
+begins-literal (c ∷ s) = within 48 57 c
+
 unfoldable pub literal-value : List ℕ → Option Value
 literal-value s =
     let r = radix s in
     let ds = digits-of r (unprefixed s) in
     let suffix = suffix-of r (unprefixed s) in
     let n = number r 0 ds in
-    cond (null ds || leb (2 ^ 128) n) none (cast (type-named int-types suffix) (null suffix) n)
+    cond (begins-literal s && (not (null ds) && ltb n (2 ^ 128))) (cast (type-named int-types suffix) (null suffix) n) none
 
 -- "-1i8 is an application of the negation operator to the literal 1i8": of signed types only; wrapped to the type, as in a
 -- release build

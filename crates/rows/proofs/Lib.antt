@@ -1,0 +1,4 @@
+pub mod Laws
+pub mod Decode
+pub mod DecodeBlock
+pub mod Size
