@@ -6,8 +6,7 @@ use mathlib.Core.Option.{Option, some, none}
 use mathlib.Core.List.{List, [], _∷_, _++_}
 use lib.ListN.{getD}
 use Rattle.literal.specs.declared.builtin_type.IntType.{IntType}
-use Rattle.literal.specs.declared.builtin_type.BuiltinType.{BuiltinType}
-use Rattle.literal.specs.declared.builtin_type.BuiltinType.the-variants as builtin
+use Rattle.literal.specs.BuiltinType.{builtin-int}
 use Rattle.plan.specs.Plan.{Field, Fields, unit, named, tuple, TypeData, Builtin, Primitive, Enum, Struct, FunctionKind, absent, internal, external, Term, Environment}
 use Rattle.plan.specs.Lookup.{type-at}
 use Rattle.codegen.specs.Piece.{Piece, fix, sym, num}
@@ -25,10 +24,6 @@ abbrev pub is-ref : Environment → ℕ → Bool
 is-ref e n = is-ref-type (type-at e n)
 
 -- codegen.rs 1183, `emit_int`: the integer type that a literal is written as, none for another type
-abbrev pub builtin-int : BuiltinType → Option IntType
-builtin-int builtin.Bool = none
-builtin-int (builtin.Int t) = some t
-
 unfoldable pub int-type : TypeData → Option IntType
 int-type (Builtin t) = builtin-int t
 int-type (Primitive n) = none
