@@ -1,0 +1,4 @@
+pub mod Laws
+pub mod Cuts
+pub mod Groups
+pub mod Read

@@ -1,0 +1,133 @@
+-- Laws of the reader's answer. Assumes nothing.
+use Prim.Native.Nat.{ℕ, zero, suc, _+_, _-_, _*_, _≤_, _<_}
+use mathlib.Core.Path.{_≡_, refl, sym, ap, _∙_}
+use mathlib.Core.Bool.{Bool, true, false, cond, _&&_}
+use mathlib.Core.List.{List, [], _∷_}
+use mathlib.Core.Option.{Option, some, none}
+use native.Mathlib.Omega.{arith}
+use native.Mathlib.Numerals.{add-one}
+use lib.Dec.{eqb}
+use lib.ListN.{length, take, drop, set, getD, drop-of-length-le}
+use lib.Seq.{drop-cons}
+use borrow.Author.Tests.{le-leb, lt-leb}
+use Rattle.text.specs.Split.{split}
+use Rattle.plan.specs.Plan.{Plan}
+use Rattle.plan.specs.Layout.{_⊛_, only, read}
+use Rattle.plan.specs.Refusal.{every, allowed, fits-length, bytes-allowed, Outcome, refused, accepted, judged, laid-out, outcome, number-of}
+use Rattle.layout.specs.Scan.{Tables, scan, shaped, laid-tables, Done, Fill, Few}
+use Rattle.layout.specs.declared.Filled.{Filled}
+use Rattle.layout.specs.declared.Filled.the-variants.{To, Bad}
+use Rattle.layout.specs.View.{tables-of, plan-of-tables, plan-held, Indexed}
+use Rattle.layout.proofs.Cuts.{tables-are, indexed}
+use Rattle.layout.proofs.Read.{read-law}
+use Rattle.reader.specs.Reading.{of-layout, reading, Holding, Says}
+use Rattle.reader.specs.declared.Laid.{Laid}
+use Rattle.reader.specs.declared.Laid.the-variants.{Refused, Held}
+
+-- bytes
+
+pub every-end : (s : List ℕ) (i : ℕ) → length s ≤ i → every allowed (drop i s) ≡ true
+unfolding every
+every-end s i h = rw (drop-of-length-le s h)
+
+module _ (s : List ℕ) (i : ℕ) (h : i < length s) where
+  pub every-not : allowed (getD s i 0) ≡ false → every allowed (drop i s) ≡ false
+  unfolding every
+  every-not e = rw (drop-cons s i 0 h, e)
+
+  pub every-next : allowed (getD s i 0) ≡ true → every allowed (drop i s) ≡ every allowed (drop (i + 1) s)
+  unfolding every
+  every-next e = rw (drop-cons s i 0 h, e, add-one)
+
+-- the refusals
+
+pub reading-long : (s : List ℕ) → 65536 < length s → reading s ≡ refused 1
+unfolding reading fits-length
+reading-long s h = rw (lt-leb (length s) 65536 h)
+
+module _ (s : List ℕ) (short : length s ≤ 65536) where
+  pub reading-byte : bytes-allowed s ≡ false → reading s ≡ refused 2
+  unfolding reading fits-length
+  reading-byte e = rw (le-leb (length s) 65536 short, e)
+
+  module _ (plain : bytes-allowed s ≡ true) where
+    reading-laid : reading s ≡ of-layout (read s)
+    unfolding reading fits-length
+    reading-laid = rw (le-leb (length s) 65536 short, plain)
+
+    not-shaped : (ts : Tables) → scan 0 false 0 (split (eqb 10) s) ≡ some ts → shaped 0 ts ≡ false → reading s ≡ refused 3
+    unfolding laid-tables only _⊛_
+    not-shaped ts e h = let q : read s ≡ none = sym (read-law s) ∙ rw (e, h) in reading-laid ∙ rw q
+
+    is-shaped : (ts : Tables) → scan 0 false 0 (split (eqb 10) s) ≡ some ts → shaped 0 ts ≡ true → reading s ≡ accepted (plan-of-tables s ts)
+    unfolding laid-tables only _⊛_
+    is-shaped ts e h = let q : read s ≡ some (plan-of-tables s ts) = sym (read-law s) ∙ rw (e, h) in reading-laid ∙ rw q
+
+    module _ (words₀ rows₀ tables₀ o x m : List ℕ) where
+      -- the lines are not those of tables
+      pub says-bad : Fill words₀ 0 rows₀ 0 tables₀ 0 (scan 0 false 0 (split (eqb 10) s)) Bad o x m → reading s ≡ refused 3
+      unfolding laid-tables only _⊛_ Fill
+      says-bad f = by-scan (scan 0 false 0 (split (eqb 10) s)) refl f where
+        by-scan : (p : Option Tables) → scan 0 false 0 (split (eqb 10) s) ≡ p → Fill words₀ 0 rows₀ 0 tables₀ 0 p Bad o x m → reading s ≡ refused 3
+        by-scan none e f = let q : read s ≡ none = sym (read-law s) ∙ rw e in reading-laid ∙ rw q
+        by-scan (some ts) e f = absurd f
+
+      module _ (k n j : ℕ) (f : Fill words₀ 0 rows₀ 0 tables₀ 0 (scan 0 false 0 (split (eqb 10) s)) (To k n j) o x m)
+          (first-row : take 1 rows₀ ≡ 0 ∷ []) (first-table : take 1 tables₀ ≡ 0 ∷ []) where
+        filled : (P : Type 0) → ((ts : Tables) → scan 0 false 0 (split (eqb 10) s) ≡ some ts → Done words₀ 0 rows₀ 0 tables₀ 0 ts k n j o x m → P) → P
+        unfolding Fill
+        filled P g = by-scan (scan 0 false 0 (split (eqb 10) s)) refl f where
+          by-scan : (p : Option Tables) → scan 0 false 0 (split (eqb 10) s) ≡ p → Fill words₀ 0 rows₀ 0 tables₀ 0 p (To k n j) o x m → P
+          by-scan none e f = absurd f
+          by-scan (some ts) e f = g ts e f
+
+        pub says-index : Indexed m n j
+        says-index = filled (Indexed m n j) (λ ts e d. indexed d first-table)
+
+        pub says-not : shaped 0 (tables-of o x m n j) ≡ false → reading s ≡ refused 3
+        says-not h = filled (reading s ≡ refused 3) (λ ts e d. not-shaped ts e (rw (tables-are d first-row first-table) at h))
+
+        pub says-read : shaped 0 (tables-of o x m n j) ≡ true → reading s ≡ accepted (plan-held s o x m n j)
+        unfolding plan-held
+        says-read h = filled (reading s ≡ accepted (plan-of-tables s (tables-of o x m n j))) (λ ts e d. rw (tables-are d first-row first-table) (is-shaped ts e (rw (tables-are d first-row first-table) at h)))
+
+pub says-refused : (s words rows tables : List ℕ) (n : ℕ) → reading s ≡ refused n → Says (reading s) s (Refused n) words rows tables
+unfolding Says
+says-refused s words rows tables n e = rw e refl
+
+pub says-held : (s words rows tables : List ℕ) (n j : ℕ) → reading s ≡ accepted (plan-held s words rows tables n j) → Indexed tables n j → 2 * n ≤ length s → 4 * j ≤ length s
+    → Says (reading s) s (Held n j) words rows tables
+unfolding Says
+says-held s words rows tables n j e i h g = rw e (record { is = refl; index = i; few-rows = h; few-tables = g })
+
+pub first-zero : (l : List ℕ) → 0 < length l → take 1 (set l 0 0) ≡ 0 ∷ []
+first-zero [] h = absurd (omega arith)
+first-zero (x ∷ l) h = refl
+
+pub number-refused : (o : Outcome) (s : List ℕ) (r : Laid) (words rows tables : List ℕ) (n : ℕ) → Says o s r words rows tables → r ≡ Refused n → n ≡ number-of o
+unfolding Says
+number-refused (refused m) s (Refused k) words rows tables n h e = let q : k ≡ n = cc in omega arith
+number-refused (refused m) s (Held k j) words rows tables n h e = absurd h
+number-refused (accepted p) s (Refused k) words rows tables n h e = absurd h
+number-refused (accepted p) s (Held k j) words rows tables n h e = let z : _≡_ {A = ℕ} 0 1 = cc in absurd (omega arith)
+
+pub number-held : (o : Outcome) (s : List ℕ) (r : Laid) (words rows tables : List ℕ) (n j : ℕ) → Says o s r words rows tables → r ≡ Held n j → 0 ≡ number-of o
+unfolding Says
+number-held (refused m) s (Refused k) words rows tables n j h e = let z : _≡_ {A = ℕ} 0 1 = cc in absurd (omega arith)
+number-held (refused m) s (Held k i) words rows tables n j h e = absurd h
+number-held (accepted p) s (Refused k) words rows tables n j h e = absurd h
+number-held (accepted p) s (Held k i) words rows tables n j h e = refl
+
+-- the definition's outcome goes on from here
+abbrev pub go-on : Outcome → Outcome
+go-on (refused n) = refused n
+go-on (accepted p) = judged p
+
+pub outcome-law : (s : List ℕ) → outcome s ≡ go-on (reading s)
+unfolding outcome reading
+outcome-law s = by-tests (fits-length s) (bytes-allowed s) (read s) where
+  by-tests : (b c : Bool) (o : Option Plan) → cond b (cond c (laid-out o) (refused 2)) (refused 1) ≡ go-on (cond b (cond c (of-layout o) (refused 2)) (refused 1))
+  by-tests false c o = refl
+  by-tests true false o = refl
+  by-tests true true none = refl
+  by-tests true true (some p) = refl

@@ -1,0 +1,34 @@
+-- What the reader answers: the refusals 1 to 3, and the plan that the buffers hold. Assumes nothing: these are definitions.
+use Prim.Native.Nat.{ℕ, _*_, _≤_}
+use mathlib.Core.Path.{_≡_}
+use mathlib.Core.Bool.{cond}
+use mathlib.Core.Option.{Option, some, none}
+use mathlib.Core.List.{List}
+use lib.ListN.{length}
+use Rattle.plan.specs.Plan.{Plan}
+use Rattle.plan.specs.Layout.{read}
+use Rattle.plan.specs.Refusal.{fits-length, bytes-allowed, Outcome, refused, accepted}
+use Rattle.layout.specs.View.{plan-held, Indexed}
+use Rattle.reader.specs.declared.Laid.{Laid}
+use Rattle.reader.specs.declared.Laid.the-variants.{Refused, Held}
+
+abbrev pub of-layout : Option Plan → Outcome
+of-layout none = refused 3
+of-layout (some p) = accepted p
+
+-- the outcome as far as the refusals 1 to 3 go
+unfoldable pub reading : List ℕ → Outcome
+reading s = cond (fits-length s) (cond (bytes-allowed s) (of-layout (read s)) (refused 2)) (refused 1)
+
+-- the buffers hold the plan p: n rows in j tables
+pub record Holding (p : Plan) (s words rows tables : List ℕ) (n j : ℕ) : Type 0 where
+  pub is : plan-held s words rows tables n j ≡ p
+  pub index : Indexed tables n j
+  pub few-rows : 2 * n ≤ length s
+  pub few-tables : 4 * j ≤ length s
+
+unfoldable pub Says : Outcome → List ℕ → Laid → List ℕ → List ℕ → List ℕ → Type 0
+Says (refused n) s (Refused m) words rows tables = m ≡ n
+Says (refused n) s (Held k j) words rows tables = ⊥
+Says (accepted p) s (Refused m) words rows tables = ⊥
+Says (accepted p) s (Held n j) words rows tables = Holding p s words rows tables n j
