@@ -250,7 +250,7 @@ unfolding Stands unlines
 stands-from p [] = tt
 stands-from p (l ∷ ls) =
     let here : slice (length p) (length p + length l) (p ++ (l ++ (10 ∷ unlines ls))) ≡ l =
-        slice-take (length p) (length l) (p ++ (l ++ (10 ∷ unlines ls))) ∙ rw (drop-append-seam, take-append-seam) in
+    slice-take (length p) (length l) (p ++ (l ++ (10 ∷ unlines ls))) ∙ rw (drop-append-seam, take-append-seam) in
     let q = p ++ (l ++ (10 ∷ [])) in
     let long : length q ≡ length p + length l + 1 = simp length-append (omega arith) in
     let text : q ++ unlines ls ≡ p ++ (l ++ (10 ∷ unlines ls)) = simp append-assoc in

@@ -180,8 +180,8 @@ group-law : (i : ℕ) → sort-at i ≡ 7 → sort-at (i + 1) ≡ 8 → sort-at 
     ≡ some (λ g gs. g ∷ gs) ⊛ (some term-made ⊛ one (some (map (λ ws. nth ws 0)) ⊛ t) ⊛ (some (map binding-of) ⊛ b) ⊛ only (nested (steps ∷ [])) (some (map block-of) ⊛ r)) ⊛ (some generated-of ⊛ only (shaped (i + 1 + 1 + 1)) w)
 group-law i e f g t b r w =
     let l : only (shaped i) (some (λ t ts. t ∷ ts) ⊛ t ⊛ (some (λ t ts. t ∷ ts) ⊛ b ⊛ (some (λ t ts. t ∷ ts) ⊛ r ⊛ w)))
-        ≡ some (λ t ts. t ∷ ts) ⊛ only (table-shaped 7) t ⊛ (some (λ t ts. t ∷ ts) ⊛ b ⊛ (some (λ t ts. t ∷ ts) ⊛ only (table-shaped 9) r ⊛ only (shaped (i + 1 + 1 + 1)) w)) =
-        only-cons i t _ ∙ rw (only-cons (i + 1) b (some (λ t ts. t ∷ ts) ⊛ r ⊛ w), only-cons (i + 1 + 1) r w, e, f, g, any-law 8 b refl refl) in
+    ≡ some (λ t ts. t ∷ ts) ⊛ only (table-shaped 7) t ⊛ (some (λ t ts. t ∷ ts) ⊛ b ⊛ (some (λ t ts. t ∷ ts) ⊛ only (table-shaped 9) r ⊛ only (shaped (i + 1 + 1 + 1)) w)) =
+    only-cons i t _ ∙ rw (only-cons (i + 1) b (some (λ t ts. t ∷ ts) ⊛ r ⊛ w), only-cons (i + 1 + 1) r w, e, f, g, any-law 8 b refl refl) in
     ap (λ (x : Option Tables). some generated-of ⊛ x) l
     ∙ group-cells (only (table-shaped 7) t) b (only (table-shaped 9) r) (only (shaped (i + 1 + 1 + 1)) w)
     ∙ rw (one-law 7 (λ ws. nth ws 0) t refl, nested-law r)
@@ -202,7 +202,7 @@ generated-step t b r ts i from h g more =
     let hb : some (map binding-of) ⊛ ob ≡ table "kind a b list" binding-row b = table-each 8 "kind a b list" binding-of binding-row names-bindings (λ from l. binding-at from l) b (from + bytes t + 1) in
     let hc : some (map block-of) ⊛ oc ≡ table "level kind a b list" block-row r = table-each 9 "level kind a b list" block-of block-row names-block (λ from l. block-at from l) r (from + bytes t + 1 + bytes b + 1) in
     let l : some (λ t ts. t ∷ ts) ⊛ table-read (sort-at i) from t ⊛ (some (λ t ts. t ∷ ts) ⊛ table-read (sort-at (i + 1)) (from + bytes t + 1) b ⊛ (some (λ t ts. t ∷ ts) ⊛ table-read (sort-at (i + 1 + 1)) (from + bytes t + 1 + bytes b + 1) r ⊛ w))
-        ≡ some (λ t ts. t ∷ ts) ⊛ ot ⊛ (some (λ t ts. t ∷ ts) ⊛ ob ⊛ (some (λ t ts. t ∷ ts) ⊛ oc ⊛ w)) = rw (e, f, d) in
+    ≡ some (λ t ts. t ∷ ts) ⊛ ot ⊛ (some (λ t ts. t ∷ ts) ⊛ ob ⊛ (some (λ t ts. t ∷ ts) ⊛ oc ⊛ w)) = rw (e, f, d) in
     ap (λ (x : Option Tables). some generated-of ⊛ only (shaped i) x) l ∙ group-law i e f d ot ob oc w ∙ rw (ht, hb, hc, more)
 
 generated-read : (ts : List (List (List ℕ))) (i from : ℕ) → 7 ≤ i → (i - 7) % 3 ≡ 0 → some generated-of ⊛ only (shaped i) (tables-read i from ts) ≡ generated-terms ts

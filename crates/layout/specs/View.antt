@@ -39,8 +39,12 @@ generated-of (t ∷ b ∷ r ∷ ts) = record { term = nth (getD t 0 []) 0; bindi
 
 unfoldable pub environment-of : List ℕ → Tables → Environment
 environment-of plan ts = record {
-  files = map (text-of plan) (getD ts 1 []); syms = map (text-of plan) (getD ts 2 []); poss = map (text-of plan) (getD ts 3 []);
-  types = builtins all ++ map type-of (getD ts 4 []); variants = map variant-of (getD ts 5 []); terms = map term-of (getD ts 6 [])
+  files = map (text-of plan) (getD ts 1 []);
+  syms = map (text-of plan) (getD ts 2 []);
+  poss = map (text-of plan) (getD ts 3 []);
+  types = builtins all ++ map type-of (getD ts 4 []);
+  variants = map variant-of (getD ts 5 []);
+  terms = map term-of (getD ts 6 []);
 }
 
 -- the plan of the words of its tables

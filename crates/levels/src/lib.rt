@@ -67,7 +67,14 @@ fn levels_fit(words: &[u32], rows: &[u32], from: usize, to: usize, above: &mut [
 }
 
 // Whether a table has the rows that its sort asks for.
-fn table_fits(sort: usize, words: &[u32], rows: &[u32], from: usize, to: usize, above: &mut [u8]) -> bool
+fn table_fits(
+    sort: usize,
+    words: &[u32],
+    rows: &[u32],
+    from: usize,
+    to: usize,
+    above: &mut [u8],
+) -> bool
     requires { ⌜ (from ≤ to) × (to + 2 ≤ length (now above)) × (to ≤ 65536) ⌝ }
     ensures { λ r. ⌜ r ≡ table-shaped sort (cuts (now (words .entry)) (now (rows .entry)) from (to - from)) ⌝ }
 {
@@ -84,7 +91,14 @@ fn table_fits(sort: usize, words: &[u32], rows: &[u32], from: usize, to: usize, 
 }
 
 // Whether each table has the rows that its sort asks for.
-pub fn all_fit(words: &[u32], rows: &[u32], tables: &[u32], n: usize, j: usize, above: &mut [u8]) -> bool
+pub fn all_fit(
+    words: &[u32],
+    rows: &[u32],
+    tables: &[u32],
+    n: usize,
+    j: usize,
+    above: &mut [u8],
+) -> bool
     requires { ⌜ Indexed (now tables) n j × (n + 2 ≤ length (now above)) × (n ≤ 65536) × (j ≤ 65536) ⌝ }
     ensures { λ r. ⌜ r ≡ shaped 0 (tables-of (now (words .entry)) (now (rows .entry)) (now (tables .entry)) n j) ⌝ }
 {

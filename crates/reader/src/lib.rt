@@ -64,7 +64,12 @@ fn read_into(plan: &[u8], words: &mut [u32], rows: &mut [u32], tables: &mut [u32
 }
 
 // Reads a plan into the buffers.
-pub fn read(plan: &[u8], words: &mut [u32; 65536], rows: &mut [u32; 32769], tables: &mut [u32; 16385]) -> Laid
+pub fn read(
+    plan: &[u8],
+    words: &mut [u32; 65536],
+    rows: &mut [u32; 32769],
+    tables: &mut [u32; 16385],
+) -> Laid
     ensures { λ r. ⌜ Says (reading (now (plan .entry))) (now (plan .entry)) r (now (words .exit)) (now (rows .exit)) (now (tables .exit)) ⌝ }
 {
     read_into(plan, words, rows, tables)

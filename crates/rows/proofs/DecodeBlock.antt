@@ -148,10 +148,40 @@ binding-cells k a b w = by-test (ltb k 14) a b w where
 binding-kind : (k a b : List ℕ) → by-kind layout.binding-kinds k a b
     ≡ cond (ltb (place binding-kinds k) 14) (some (binding-made (place binding-kinds k)) ⊛ cell (getD binding-as (place binding-kinds k) 0) a ⊛ wide (getD binding-bs (place binding-kinds k) 0) b) none
 unfolding binding-kinds split binding-made
-binding-kind k a b = by-place layout.binding-kinds (λ j. some (binding-made j) ⊛ cell (getD binding-as j 0) a ⊛ wide (getD binding-bs j 0) b) k a b
-    (read-bit ConstBool a b, (read-value ConstInt a b, (read-number ConstPrim a b, (read-number Argument a b, (read-number Extractor a b, (read-number Constructor a b,
-    (read-alone Iterator a b, (read-numbers MakeVariant a b, (read-number MakeStruct a b, (read-alone MakeSome a b, (read-alone MatchSome a b,
-    (read-field MatchTuple a b, (read-field MatchVariant a b, (read-field ExtractStruct a b, tt))))))))))))))
+binding-kind k a b = by-place layout.binding-kinds (λ j. some (binding-made j) ⊛ cell (getD binding-as j 0) a ⊛ wide (getD binding-bs j 0) b) k a b (
+  read-bit ConstBool a b,
+  (
+    read-value ConstInt a b,
+    (
+      read-number ConstPrim a b,
+      (
+        read-number Argument a b,
+        (
+          read-number Extractor a b,
+          (
+            read-number Constructor a b,
+            (
+              read-alone Iterator a b,
+              (
+                read-numbers MakeVariant a b,
+                (
+                  read-number MakeStruct a b,
+                  (
+                    read-alone MakeSome a b,
+                    (
+                      read-alone MatchSome a b,
+                      (read-field MatchTuple a b, (read-field MatchVariant a b, (read-field ExtractStruct a b, tt))),
+                    ),
+                  ),
+                ),
+              ),
+            ),
+          ),
+        ),
+      ),
+    ),
+  ),
+)
 
 pub binding-law : (line : List ℕ) → some binding-of ⊛ binding-words line ≡ binding-row line
 unfolding binding-words binding-row

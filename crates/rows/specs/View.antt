@@ -52,8 +52,15 @@ function-of n = cond (eqb n 0) absent (cond (eqb n 1) internal (external (n - 2)
 -- name pos ret multi partial ctor xtor infallible, then the list
 unfoldable pub term-of : List ℕ → Term
 term-of ws = record {
-  name = nth ws 0; pos = nth ws 1; ret-ty = nth ws 2; multi = flagged (nth ws 3); partial = flagged (nth ws 4);
-  ctor = function-of (nth ws 5); xtor = function-of (nth ws 6); infallible = flagged (nth ws 7); arg-tys = drop 8 ws
+  name = nth ws 0;
+  pos = nth ws 1;
+  ret-ty = nth ws 2;
+  multi = flagged (nth ws 3);
+  partial = flagged (nth ws 4);
+  ctor = function-of (nth ws 5);
+  xtor = function-of (nth ws 6);
+  infallible = flagged (nth ws 7);
+  arg-tys = drop 8 ws;
 }
 
 -- the kinds of bindings, in the order of their numbers, from a and b

@@ -107,7 +107,10 @@ fn put_generated(line: &[u8], out: &mut [u32], at: Next) -> Next
 fn put_binding(line: &[u8], out: &mut [u32], at: Next) -> Next
     ensures { λ r. ⌜ Wrote (now (out .entry)) at (binding-words (now (line .entry))) r (now (out .exit)) ⌝ }
 {
-    let k = tokens::find_name(b"bool int prim arg extract construct iter variant struct some matchsome matchtuple matchvariant extractstruct", tokens::part(line, 32, 0));
+    let k = tokens::find_name(
+        b"bool int prim arg extract construct iter variant struct some matchsome matchtuple matchvariant extractstruct",
+        tokens::part(line, 32, 0),
+    );
     let p0 = spaced(line, 3, at);
     let p1 = values::put_kind(14, k, out, p0);
     let p2 = values::put_cell(sort_of(&BINDING_AS, k), line, 1, out, p1);
@@ -118,7 +121,10 @@ fn put_binding(line: &[u8], out: &mut [u32], at: Next) -> Next
 fn put_block_row(line: &[u8], out: &mut [u32], at: Next) -> Next
     ensures { λ r. ⌜ Wrote (now (out .entry)) at (block-words (now (line .entry))) r (now (out .exit)) ⌝ }
 {
-    let k = tokens::find_name(b"match equal loop return bool int prim variant struct some", tokens::part(line, 32, 1));
+    let k = tokens::find_name(
+        b"match equal loop return bool int prim variant struct some",
+        tokens::part(line, 32, 1),
+    );
     let p0 = spaced(line, 4, at);
     let p1 = values::put_cell(1, line, 0, out, p0);
     let p2 = values::put_kind(10, k, out, p1);

@@ -39,12 +39,12 @@ holds-then old mid new (At k) No r (some ws) (some vs) s f g =
     λ room. let z : _≡_ {A = ℕ} 0 1 = cc (f (omega (arith, simp length-append at room)) .0) in absurd (omega arith)
 holds-then old mid new (At k) (At j) r (some ws) (some vs) s f g =
     λ room.
-        let n : k + (length ws + length vs) ≤ length old = simp length-append at room in
-        let h = f (omega arith) in
-        let e : j ≡ k + length ws = cc (h .0) in
-        let m = g (omega arith) in
-        let d : k + length (ws ++ vs) ≡ j + length vs = rw length-append (omega arith) in
-        (m .0 ∙ ap At (sym d), rw d (m .1 ∙ rw (e, h .1, append-assoc)))
+    let n : k + (length ws + length vs) ≤ length old = simp length-append at room in
+    let h = f (omega arith) in
+    let e : j ≡ k + length ws = cc (h .0) in
+    let m = g (omega arith) in
+    let d : k + length (ws ++ vs) ≡ j + length vs = rw length-append (omega arith) in
+    (m .0 ∙ ap At (sym d), rw d (m .1 ∙ rw (e, h .1, append-assoc)))
 
 infixr 25 _⟫_
 pub _⟫_ : {old mid new : List ℕ} {p q r : Next} {a b : Option (List ℕ)} → Wrote old p a q mid → Wrote mid q b r new → Wrote old p (a ⧺ b) r new
@@ -144,7 +144,7 @@ pub integer-words : (t : List ℕ) → length t ≡ 32
 unfolding integer hex-numeral word _⧺_ _⊛_
 integer-words t h =
     let e : hex-digits t ≡ (hex-digits (eight t 0) && (hex-digits (eight t 8) && (hex-digits (eight t 16) && hex-digits (eight t 24)))) =
-        ap hex-digits (in-eights t h) ∙ simp hex-append in
+    ap hex-digits (in-eights t h) ∙ simp hex-append in
     rw (eq-eqb _ _ h, e) (by-tests (hex-digits (eight t 0)) (hex-digits (eight t 8)) (hex-digits (eight t 16)) (hex-digits (eight t 24))
     (hex-from 0 (eight t 0)) (hex-from 0 (eight t 8)) (hex-from 0 (eight t 16)) (hex-from 0 (eight t 24))) where
       by-tests : (a b c d : Bool) (w x y z : ℕ)
