@@ -1,14 +1,14 @@
 -- Laws of the scan. Assumes nothing.
-use Prim.Native.Nat.{ℕ, zero, suc, _+_, _-_, _*_, _≤_, _<_}
+use Prim.Native.Nat.{ℕ, suc, _+_, _-_, _≤_, _<_}
 use mathlib.Core.Path.{_≡_, refl, sym, ap, _∙_}
-use mathlib.Core.Bool.{Bool, true, false, cond, not, _&&_, and-false}
+use mathlib.Core.Bool.{Bool, true, false, cond, _&&_}
 use mathlib.Core.List.{List, [], _∷_, _++_, append-nil, append-assoc}
 use mathlib.Core.Option.{Option, some, none}
 use native.Mathlib.Omega.{arith}
 use native.Mathlib.Numerals.{add-one}
 use lib.Dec.{eqb}
 use borrow.Author.Tests.{eq-eqb, ne-eqb}
-use lib.ListN.{length, take, drop, set, getD, length-append, length-drop, length-take}
+use lib.ListN.{length, take, drop, set, length-append, length-drop, length-take}
 use lib.Seq.{take-suc-set, append-snoc}
 use Rattle.text.specs.Split.{null, split, same}
 use Rattle.tokens.specs.Token.{until}
@@ -16,9 +16,9 @@ use Rattle.tokens.proofs.Laws.{parts-some, split-more, split-last}
 use Rattle.values.specs.declared.Next.{Next}
 use Rattle.values.specs.declared.Next.the-variants.{At, No}
 use Rattle.values.specs.Words.{Holds, Wrote}
-use Rattle.rows.specs.Row.{row-words, header, Within, Sized}
+use Rattle.rows.specs.Row.{row-words, header, Within}
 use Rattle.rows.proofs.Size.{sized-words}
-use Rattle.layout.specs.Scan.{Tables, sort-at, names, add, close, last, scan, join, ends, Done, Fill}
+use Rattle.layout.specs.Scan.{Tables, sort-at, names, add, close, last, scan, Fill}
 use Rattle.layout.specs.declared.Filled.{Filled}
 use Rattle.layout.specs.declared.Filled.the-variants.{To, Bad}
 

@@ -2,28 +2,27 @@
 use Prim.Native.Nat.{ℕ, zero, suc, _+_, _-_, _%_, _≤_, _<_}
 use Prim.Native.String.{String}
 use mathlib.Core.Path.{_≡_, refl, sym, ap, _∙_}
-use mathlib.Core.Bool.{Bool, true, false, cond, not, _&&_, _||_}
+use mathlib.Core.Bool.{Bool, true, false, cond, _&&_, _||_}
 use mathlib.Core.List.{List, [], _∷_, _++_, map}
 use mathlib.Core.Option.{Option, some, none}
 use native.Mathlib.Omega.{arith}
 use lib.Dec.{eqb, ltb}
 use lib.ListN.{length, getD, drop}
-use lib.Seq.{slice}
-use borrow.Author.Tests.{eq-eqb, ne-eqb, lt-ltb, le-ltb}
+use borrow.Author.Tests.{ne-eqb, lt-ltb, le-ltb}
 use Rattle.text.specs.Codes.{codes}
 use Rattle.text.specs.Split.{null, split, ended, same}
 use Rattle.literal.specs.BuiltinType.{all}
-use Rattle.plan.specs.Plan.{Options, TypeData, Variant, Term, Generated, Environment, Plan}
+use Rattle.plan.specs.Plan.{Options, Generated, Environment, Plan}
 use Rattle.plan.specs.Binding.{BindingRow}
 use Rattle.plan.specs.Row.{Row}
-use Rattle.plan.specs.Layout.{_⊛_, each, one, only, then, number, is, row, at, options-row, text-row, type-row, variant-row, term-row, binding-row, block-row, nested, steps, table, generated-term, generated-terms, builtins, environment, plan-of, read}
+use Rattle.plan.specs.Layout.{_⊛_, each, one, only, then, number, row, at, options-row, text-row, type-row, variant-row, term-row, binding-row, block-row, nested, steps, table, generated-term, generated-terms, builtins, environment, plan-of, read}
 use Rattle.values.specs.Words.{word}
 use Rattle.values.specs.Value.{cell}
-use Rattle.rows.specs.Row.{options-words, type-words, variant-words, term-words, generated-words, binding-words, block-words, text-words, row-words}
+use Rattle.rows.specs.Row.{generated-words, text-words, row-words}
 use Rattle.rows.specs.View.{nth, options-of, type-of, variant-of, term-of, binding-of, block-of}
 use Rattle.rows.proofs.Decode.{row-law, options-law, type-law, variant-law, term-law}
 use Rattle.rows.proofs.DecodeBlock.{binding-law, block-law}
-use Rattle.layout.specs.Scan.{Tables, sort-at, names, scan, table-shaped, shaped, laid-tables}
+use Rattle.layout.specs.Scan.{Tables, sort-at, names, table-shaped, shaped, laid-tables}
 use Rattle.layout.specs.View.{text-of, generated-of, environment-of, plan-of-tables}
 use Rattle.layout.proofs.Groups.{bytes, rows-read, table-read, tables-read, of-groups, of-lines, scan-law, Stands, Tables-stand, tables-stand}
 

@@ -95,7 +95,7 @@ Fill words k rows n tables j none (To k' n' j') o x m = ⊥
 Fill words k rows n tables j (some ts) Bad o x m = ⊥
 Fill words k rows n tables j (some ts) (To k' n' j') o x m = Done words k rows n tables j ts k' n' j' o x m
 
--- no more words than bytes, and few rows and tables
-abbrev pub Few : ℕ → Filled → Type 0
-Few len Bad = Unit
-Few len (To k n j) = (k ≤ len) × (2 * n ≤ len) × (4 * j ≤ len)
+-- no more words than bytes, few rows and tables, and none begun
+abbrev pub Whole : ℕ → Filled → Type 0
+Whole len Bad = Unit
+Whole len (To k n j) = (k ≤ len) × (2 * n ≤ len) × (4 * j ≤ len) × (sort-at j ≡ 7)

@@ -2,11 +2,11 @@
 use values::Next;
 ghost use mathlib.Core.Path.{_≡_};
 ghost use mathlib.Core.Bool.{false};
-ghost use Prim.Native.Nat.{ℕ, _+_, _-_, _*_, _≤_, _<_};
+ghost use Prim.Native.Nat.{_+_, _-_, _*_, _≤_, _<_};
 ghost use lib.Dec.{eqb};
-ghost use lib.ListN.{length, take, drop, getD};
+ghost use lib.ListN.{length};
 ghost use Rattle.text.specs.Split.{split, same};
-ghost use Rattle.layout.specs.Scan.{sort-at, names, scan, Fill, Few};
+ghost use Rattle.layout.specs.Scan.{sort-at, names, scan, Fill, Whole};
 
 // How many words, rows and tables were written, or that the plan is not laid out as it should be.
 pub enum Filled {
@@ -63,7 +63,7 @@ pub fn fill(s: &[u8], words: &mut [u32], rows: &mut [u32], tables: &mut [u32]) -
     requires { ⌜ (length (now s) ≤ 65536) × (length (now s) ≤ length (now words)) × (length (now s) + 2 ≤ 2 * length (now rows)) × (length (now s) + 4 ≤ 4 * length (now tables)) ⌝ }
     ensures { λ r. ⌜ Fill (now (words .entry)) 0 (now (rows .entry)) 0 (now (tables .entry)) 0
         (scan 0 false 0 (split (eqb 10) (now (s .entry)))) r (now (words .exit)) (now (rows .exit)) (now (tables .exit)) ⌝ }
-    ensures { λ r. ⌜ Few (length (now (s .entry))) r ⌝ }
+    ensures { λ r. ⌜ Whole (length (now (s .entry))) r ⌝ }
 {
     let mut at = 0;
     let mut k = 0;

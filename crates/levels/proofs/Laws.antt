@@ -1,23 +1,22 @@
 -- Laws of levels and of the tables' rows. Assumes nothing.
 use Prim.Native.Nat.{ℕ, zero, suc, _+_, _-_, _≤_, _<_}
-use mathlib.Core.Path.{_≡_, refl, sym, ap, _∙_}
-use mathlib.Core.Bool.{Bool, true, false, cond, not, _&&_, _||_, and-false}
+use mathlib.Core.Path.{_≡_, refl, ap, _∙_}
+use mathlib.Core.Bool.{Bool, true, false, cond, _||_}
 use mathlib.Core.List.{List, [], _∷_, _++_, map}
 use native.Mathlib.Omega.{arith}
-use native.Mathlib.Numerals.{add-one}
-use lib.Dec.{eqb, leb, ltb}
-use lib.ListN.{length, take, drop, set, getD, length-map, List·getD-map}
-use lib.Seq.{slice, take-take, take-suc-set, length-take-le, getD-take, take-set-le}
-use borrow.Author.Tests.{eq-eqb, ne-eqb, lt-ltb, le-ltb, le-leb, lt-leb, ltb-true, ltb-false}
+use lib.Dec.{eqb, ltb}
+use lib.ListN.{length, take, set, getD, length-map, List·getD-map}
+use lib.Seq.{take-take, take-suc-set, length-take-le, getD-take}
+use borrow.Author.Tests.{ne-eqb, lt-ltb, le-ltb, le-leb, lt-leb, ltb-true, ltb-false}
 use mathlib.Core.Option.{Option}
 use Rattle.plan.specs.Constraint.{Constraint}
 use Rattle.values.specs.Value.{Wide}
-use Rattle.plan.specs.Row.{ControlFlow, Match, Equal, Loop, Return, Row, step, arm, level}
+use Rattle.plan.specs.Row.{ControlFlow, Row, step, arm, level}
 use Rattle.plan.specs.Layout.{Below, arms, steps, nothing, below, may-stand, nested}
 use Rattle.rows.specs.View.{nth, block-of, step-made}
 use Rattle.layout.specs.Scan.{sort-at, table-shaped, shaped}
-use Rattle.layout.specs.View.{cut, cuts, tables-of, Indexed}
-use Rattle.layout.proofs.Cuts.{slice-take}
+use Rattle.layout.specs.View.{cuts}
+use Rattle.words.proofs.Tables.{length-cuts}
 use Rattle.levels.specs.Level.{below-at, stands, below-code}
 
 -- A ROW'S WORDS
@@ -109,34 +108,7 @@ module _ (stack : List ℕ) (depth : ℕ) (ws : List ℕ) (rs : List Row) (lv k 
     unfolding nested
     nested-next code e f g = rw (e, level-law ws, ← is-level, open-levels, lt-ltb lv depth h, at-level, may-law (getD stack lv 0) ws, ← is-kind, f, next-levels g)
 
--- ROWS AND TABLES
-
-pub cuts-next : {A : Type 0} (xs : List A) (index : List ℕ) (i m k : ℕ) → m ≡ k + 1 → cuts xs index i m ≡ cut xs index i ∷ cuts xs index (i + 1) k
-unfolding cuts
-cuts-next xs index i m k e = rw (e, add-one)
-
-length-cuts : {A : Type 0} (xs : List A) (index : List ℕ) (i n : ℕ) → length (cuts xs index i n) ≡ n
-unfolding cuts
-length-cuts xs index i zero = refl
-length-cuts xs index i (suc n) = ap suc (length-cuts xs index (i + 1) n)
-
-take-cuts : {A : Type 0} (xs : List A) (index : List ℕ) (i m n : ℕ) → m ≤ n → take m (cuts xs index i n) ≡ cuts xs index i m
-unfolding cuts
-take-cuts xs index i zero n h = refl
-take-cuts xs index i (suc m) zero h = absurd (omega arith)
-take-cuts {A = A} xs index i (suc m) (suc n) h = ap (λ (l : List (List A)). cut xs index i ∷ l) (take-cuts xs index (i + 1) m n (omega arith))
-
-drop-cuts : {A : Type 0} (xs : List A) (index : List ℕ) (i a n : ℕ) → drop a (cuts xs index i n) ≡ cuts xs index (i + a) (n - a)
-unfolding cuts
-drop-cuts xs index i zero n = let z : i + zero ≡ i = omega arith in let y : n - zero ≡ n = omega arith in rw (z, y)
-drop-cuts xs index i (suc a) zero = let y : zero - suc a ≡ zero = omega arith in rw y
-drop-cuts xs index i (suc a) (suc n) = let z : i + suc a ≡ i + 1 + a = omega arith in let y : suc n - suc a ≡ n - a = omega arith in rw (z, y) (drop-cuts xs index (i + 1) a n)
-
--- the rows of a table
-pub table-rows : (words rows tables : List ℕ) (n t from to : ℕ) → from ≡ getD tables t 0 → to ≡ getD tables (t + 1) 0 → to ≤ n
-    → cut (cuts words rows 0 n) tables t ≡ cuts words rows from (to - from)
-unfolding cut
-table-rows words rows tables n t from to f g h = let z : 0 + from ≡ from = omega arith in rw (← f, ← g, take-cuts words rows 0 to n h, drop-cuts words rows 0 from to, z)
+-- TABLES
 
 pub table-one : (sort : ℕ) (words rows : List ℕ) (from m : ℕ) → (eqb sort 0 || eqb sort 7) ≡ true → eqb m 1 ≡ table-shaped sort (cuts words rows from m)
 unfolding table-shaped

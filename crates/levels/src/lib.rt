@@ -1,8 +1,8 @@
 // The levels of blocks, and the tables of one row.
 ghost use mathlib.Core.Path.{_≡_};
-ghost use Prim.Native.Nat.{ℕ, _+_, _-_, _≤_, _<_};
+ghost use Prim.Native.Nat.{_+_, _-_, _≤_, _<_};
 ghost use mathlib.Core.List.{[], _∷_, map};
-ghost use lib.ListN.{length, getD};
+ghost use lib.ListN.{length};
 ghost use Rattle.plan.specs.Layout.{nested, steps};
 ghost use Rattle.rows.specs.View.{block-of};
 ghost use Rattle.layout.specs.Scan.{table-shaped, shaped};
@@ -35,13 +35,6 @@ fn below(kind: u32) -> u8
     0
 }
 
-// A word as an index.
-fn wide(w: u32) -> usize
-    ensures { λ r. ⌜ r ≡ w ⌝ }
-{
-    w as usize
-}
-
 // Whether the rows of a block nest. above has what may stand at each level next.
 fn levels_fit(words: &[u32], rows: &[u32], from: usize, to: usize, above: &mut [u8]) -> bool
     requires { ⌜ (from ≤ to) × (to + 2 ≤ length (now above)) × (to ≤ 65536) ⌝ }
@@ -51,7 +44,7 @@ fn levels_fit(words: &[u32], rows: &[u32], from: usize, to: usize, above: &mut [
     let mut depth = 1;
     let mut r = from;
     while r < to {
-        let level = wide(words::word_at(words, rows, r, 0));
+        let level = words::wide(words::word_at(words, rows, r, 0));
         let kind = words::word_at(words, rows, r, 1);
         if depth <= level {
             return false;

@@ -1,20 +1,19 @@
 -- Laws of the lists' definitions. Assumes nothing.
-use Prim.Native.Nat.{ℕ, _+_, _-_, _≤_, _<_}
-use mathlib.Core.Path.{_≡_, refl, sym, ap, _∙_}
-use mathlib.Core.Bool.{Bool, true, false, cond}
-use mathlib.Core.List.{List, [], _∷_, _++_, append-nil}
+use Prim.Native.Nat.{ℕ, _+_, _-_, _<_}
+use mathlib.Core.Path.{_≡_, refl, ap}
+use mathlib.Core.Bool.{false}
+use mathlib.Core.List.{List, [], _∷_, append-nil}
 use mathlib.Core.Option.{Option, some, none}
 use native.Mathlib.Omega.{arith}
 use lib.Dec.{eqb}
 use lib.ListN.{length, take, drop, getD}
 use borrow.Author.Tests.{eq-eqb, ne-eqb}
 use Rattle.text.specs.Split.{split, same}
-use Rattle.plan.specs.Plan.{Field}
 use Rattle.plan.specs.Layout.{_⊛_, number, field, pattern-binding}
 use Rattle.tokens.specs.Token.{until}
 use Rattle.tokens.proofs.Laws.{split-more, split-last}
 use Rattle.values.specs.Words.{_⧺_, word}
-use Rattle.lists.specs.Items.{pattern-word, field-words, item, items, list-words}
+use Rattle.lists.specs.Items.{pattern-word, field-words, item, items}
 
 pub field-two : (t : List ℕ) (n : ℕ) → n + 1 ≡ length (split (eqb 58) t) → n ≡ 1
     → word (number (getD (split (eqb 58) t) 0 [])) ⧺ word (number (getD (split (eqb 58) t) 1 [])) ≡ some field-words ⊛ field t

@@ -2,11 +2,11 @@
 use tokens::Number;
 use values::Next;
 ghost use mathlib.Core.Path.{_≡_};
-ghost use Prim.Native.Nat.{ℕ, _+_, _-_, _≤_, _<_};
-ghost use mathlib.Core.List.{[], _∷_};
+ghost use Prim.Native.Nat.{_+_, _-_};
+ghost use mathlib.Core.List.{[]};
 ghost use mathlib.Core.Option.{some};
 ghost use lib.Dec.{eqb};
-ghost use lib.ListN.{length, take, drop, getD};
+ghost use lib.ListN.{getD};
 ghost use Rattle.text.specs.Split.{split};
 ghost use Rattle.plan.specs.Layout.{_⊛_, field, pattern-binding};
 ghost use Rattle.tokens.specs.Token.{told};

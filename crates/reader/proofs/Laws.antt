@@ -1,7 +1,7 @@
 -- Laws of the reader's answer. Assumes nothing.
-use Prim.Native.Nat.{ℕ, zero, suc, _+_, _-_, _*_, _≤_, _<_}
-use mathlib.Core.Path.{_≡_, refl, sym, ap, _∙_}
-use mathlib.Core.Bool.{Bool, true, false, cond, _&&_}
+use Prim.Native.Nat.{ℕ, _+_, _-_, _*_, _≤_, _<_}
+use mathlib.Core.Path.{_≡_, refl, sym, _∙_}
+use mathlib.Core.Bool.{Bool, true, false, cond}
 use mathlib.Core.List.{List, [], _∷_}
 use mathlib.Core.Option.{Option, some, none}
 use native.Mathlib.Omega.{arith}
@@ -14,13 +14,12 @@ use Rattle.text.specs.Split.{split}
 use Rattle.plan.specs.Plan.{Plan}
 use Rattle.plan.specs.Layout.{_⊛_, only, read}
 use Rattle.plan.specs.Refusal.{every, allowed, fits-length, bytes-allowed, Outcome, refused, accepted, judged, laid-out, outcome, number-of}
-use Rattle.layout.specs.Scan.{Tables, scan, shaped, laid-tables, Done, Fill, Few}
-use Rattle.layout.specs.declared.Filled.{Filled}
+use Rattle.layout.specs.Scan.{Tables, scan, shaped, laid-tables, sort-at, Done, Fill}
 use Rattle.layout.specs.declared.Filled.the-variants.{To, Bad}
 use Rattle.layout.specs.View.{tables-of, plan-of-tables, plan-held, Indexed}
 use Rattle.layout.proofs.Cuts.{tables-are, indexed}
 use Rattle.layout.proofs.Read.{read-law}
-use Rattle.reader.specs.Reading.{of-layout, reading, Holding, Says}
+use Rattle.reader.specs.Reading.{of-layout, reading, Says}
 use Rattle.reader.specs.declared.Laid.{Laid}
 use Rattle.reader.specs.declared.Laid.the-variants.{Refused, Held}
 
@@ -95,10 +94,10 @@ pub says-refused : (s words rows tables : List ℕ) (n : ℕ) → reading s ≡ 
 unfolding Says
 says-refused s words rows tables n e = rw e refl
 
-pub says-held : (s words rows tables : List ℕ) (n j : ℕ) → reading s ≡ accepted (plan-held s words rows tables n j) → Indexed tables n j → 2 * n ≤ length s → 4 * j ≤ length s
+pub says-held : (s words rows tables : List ℕ) (n j : ℕ) → reading s ≡ accepted (plan-held s words rows tables n j) → Indexed tables n j → sort-at j ≡ 7 → 2 * n ≤ length s → 4 * j ≤ length s
     → Says (reading s) s (Held n j) words rows tables
 unfolding Says
-says-held s words rows tables n j e i h g = rw e (record { is = refl; index = i; few-rows = h; few-tables = g })
+says-held s words rows tables n j e i w h g = rw e (record { is = refl; index = i; whole = w; few-rows = h; few-tables = g })
 
 pub first-zero : (l : List ℕ) → 0 < length l → take 1 (set l 0 0) ≡ 0 ∷ []
 first-zero [] h = absurd (omega arith)

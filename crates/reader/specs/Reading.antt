@@ -8,6 +8,7 @@ use lib.ListN.{length}
 use Rattle.plan.specs.Plan.{Plan}
 use Rattle.plan.specs.Layout.{read}
 use Rattle.plan.specs.Refusal.{fits-length, bytes-allowed, Outcome, refused, accepted}
+use Rattle.layout.specs.Scan.{sort-at}
 use Rattle.layout.specs.View.{plan-held, Indexed}
 use Rattle.reader.specs.declared.Laid.{Laid}
 use Rattle.reader.specs.declared.Laid.the-variants.{Refused, Held}
@@ -24,6 +25,7 @@ reading s = cond (fits-length s) (cond (bytes-allowed s) (of-layout (read s)) (r
 pub record Holding (p : Plan) (s words rows tables : List ℕ) (n j : ℕ) : Type 0 where
   pub is : plan-held s words rows tables n j ≡ p
   pub index : Indexed tables n j
+  pub whole : sort-at j ≡ 7
   pub few-rows : 2 * n ≤ length s
   pub few-tables : 4 * j ≤ length s
 

@@ -1,7 +1,7 @@
 // A plan's bytes into the reader's buffers: refusals 1 to 3.
 use layout::Filled;
 ghost use mathlib.Core.Path.{_≡_};
-ghost use Prim.Native.Nat.{ℕ, _≤_};
+ghost use Prim.Native.Nat.{_≤_};
 ghost use lib.ListN.{length};
 ghost use Rattle.plan.specs.Refusal.{allowed, bytes-allowed, number-of};
 ghost use Rattle.reader.specs.Reading.{reading, Says};
@@ -63,7 +63,8 @@ fn read_into(plan: &[u8], words: &mut [u32], rows: &mut [u32], tables: &mut [u32
     Laid::Held(n, j)
 }
 
-// Reads a plan into the buffers.
+// Reads a plan into the buffers. A row has no more words than its line has bytes with the LF, and at least two bytes;
+// a table has four at least, its names line and the LF.
 pub fn read(
     plan: &[u8],
     words: &mut [u32; 65536],

@@ -1,25 +1,25 @@
 -- The words of a row stand for the row of the definition. Assumes nothing.
-use Prim.Native.Nat.{ℕ, zero, suc, _+_, _-_, _*_, _≤_, _<_}
+use Prim.Native.Nat.{ℕ, suc, _+_, _-_, _<_}
 use mathlib.Core.Path.{_≡_, refl, sym, ap, _∙_}
-use mathlib.Core.Bool.{Bool, true, false, cond, not, _&&_}
-use mathlib.Core.List.{List, [], _∷_, _++_}
+use mathlib.Core.Bool.{Bool, true, false, cond}
+use mathlib.Core.List.{List, [], _∷_}
 use mathlib.Core.Option.{Option, some, none}
 use native.Mathlib.Omega.{arith}
 use lib.Dec.{eqb, ltb}
-use lib.ListN.{length, getD, drop}
-use borrow.Author.Tests.{eq-eqb, ne-eqb, lt-ltb, le-ltb, ltb-true, ltb-false}
+use lib.ListN.{length, getD}
+use borrow.Author.Tests.{ne-eqb, lt-ltb, le-ltb, ltb-true, ltb-false}
 use Rattle.text.specs.Codes.{codes}
 use Rattle.text.specs.Split.{split, same}
-use Rattle.plan.specs.Plan.{Options, Field, Fields, unit, named, tuple, Declared, TypeData, Primitive, Enum, Struct, Variant, FunctionKind, absent, internal, external, Term}
-use Rattle.plan.specs.Layout.{_⊛_, each, number, is, unused, bit, function-kind, list, field, pattern-binding, row, at, options-row, Kind, by-kind, shapes, declared, type-row, variant-row, term-row, default-threshold, number-to}
+use Rattle.plan.specs.Plan.{Field, Fields, unit, named, tuple, Declared, TypeData, Primitive, Enum, Struct, FunctionKind, absent, internal, external}
+use Rattle.plan.specs.Layout.{_⊛_, each, number, is, unused, bit, function-kind, list, field, pattern-binding, row, at, options-row, Kind, by-kind, shapes, declared, type-row, variant-row, term-row}
 use Rattle.tokens.specs.Token.{place}
 use Rattle.tokens.proofs.Laws.{parts-some}
 use Rattle.values.specs.Words.{_⧺_, word}
 use Rattle.values.specs.Value.{flag, function-word, threshold, cell, kind-word}
 use Rattle.values.proofs.Laws.{number-small}
 use Rattle.lists.specs.Items.{unbound, pattern-word, field-words, item, items, list-words}
-use Rattle.rows.specs.Row.{options-words, type-kinds, type-bits, type-poss, type-lists, type-words, shape-kinds, shape-lists, variant-words, term-words, generated-words}
-use Rattle.rows.specs.View.{flagged, options-of, fields-in, shape-of, declared-of, type-of, variant-of, function-of, term-of, pattern-of, patterns-in}
+use Rattle.rows.specs.Row.{options-words, type-kinds, type-bits, type-poss, type-lists, type-words, shape-kinds, shape-lists, variant-words, term-words}
+use Rattle.rows.specs.View.{flagged, options-of, fields-in, shape-of, type-of, variant-of, function-of, term-of, pattern-of, patterns-in}
 
 -- the count of the values is asked once
 pub row-law : {A : Type 0} (n : ℕ) (f : List (List ℕ) → Option (List ℕ)) (g : List (List ℕ) → Option A) (d : List ℕ → A)

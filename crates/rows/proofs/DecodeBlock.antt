@@ -1,21 +1,20 @@
 -- The words of bindings and block rows stand for those of the definition. Assumes nothing.
 use Prim.Native.Nat.{ℕ, zero, suc, _+_, _-_, _*_, _^_, _≤_, _<_}
 use mathlib.Core.Path.{_≡_, refl, sym, ap, _∙_}
-use mathlib.Core.Bool.{Bool, true, false, cond, not, _&&_}
+use mathlib.Core.Bool.{Bool, true, false, cond, _&&_}
 use mathlib.Core.List.{List, [], _∷_, _++_}
 use mathlib.Core.Option.{Option, some, none}
 use native.Mathlib.Omega.{arith}
 use native.Mathlib.Nat.{add-mul, mul-assoc, pow-succ'}
 use lib.Dec.{eqb, ltb}
-use lib.ListN.{length, getD, take, drop, length-append, length-take, length-drop}
-use borrow.Author.Tests.{eqb-true, eq-eqb, ne-eqb, lt-ltb, le-ltb, ltb-true, ltb-false}
+use lib.ListN.{length, getD, take, drop, length-take, length-drop}
+use borrow.Author.Tests.{eqb-true, lt-ltb, le-ltb, ltb-true, ltb-false}
 use Rattle.text.specs.Codes.{codes}
 use Rattle.text.specs.Split.{split, same}
-use Rattle.plan.specs.Binding.{Binding, BindingRow, ConstBool, ConstInt, ConstPrim, Argument, Extractor, Constructor, Iterator, MakeVariant, MakeStruct, MakeSome, MatchSome, MatchTuple, MatchVariant, ExtractStruct}
+use Rattle.plan.specs.Binding.{Binding, ConstBool, ConstInt, ConstPrim, Argument, Extractor, Constructor, Iterator, MakeVariant, MakeStruct, MakeSome, MatchSome, MatchTuple, MatchVariant, ExtractStruct}
 use Rattle.plan.specs.Constraint as constraint
-use Rattle.plan.specs.Constraint.{Constraint}
-use Rattle.plan.specs.Row.{ControlFlow, Match, Equal, Loop, Return, Row, step, arm}
-use Rattle.plan.specs.Layout.{_⊛_, number, is, unused, bit, number-to, digit, hex-digits, hex-from, value, list, pattern-binding, row, at, or-else, Kind, by-kind, alone, with-number, with-field, with-bit, with-numbers, with-value, binding-row, step-kinds, arm-kinds, block-row}
+use Rattle.plan.specs.Row.{Match, Equal, Loop, Return, Row, step, arm}
+use Rattle.plan.specs.Layout.{_⊛_, number, is, unused, bit, number-to, digit, hex-digits, hex-from, value, list, pattern-binding, at, or-else, by-kind, alone, with-number, with-field, with-bit, with-numbers, with-value, binding-row, step-kinds, arm-kinds, block-row}
 use Rattle.plan.specs.Layout as layout
 use Rattle.tokens.specs.Token.{place}
 use Rattle.values.specs.Words.{_⧺_, word}
@@ -23,8 +22,8 @@ use Rattle.values.specs.Value.{flag, cell, Wide, wide-words, pad, word-range, v
 use Rattle.values.proofs.Laws.{eight, in-eights}
 use Rattle.lists.specs.Items.{list-words}
 use Rattle.rows.specs.Row.{binding-kinds, binding-as, binding-bs, binding-words, block-kinds, block-as, block-bs, block-lists, block-words}
-use Rattle.rows.specs.View.{flagged, wide-at, binding-makers, binding-made, binding-of, step-makers, step-made, arm-makers, arm-made, patterns-in, block-of}
-use Rattle.rows.proofs.Decode.{row-law, flagged-flag, list-numbers, list-patterns, names-of, Reads, by-place, ltb-suc}
+use Rattle.rows.specs.View.{flagged, binding-made, binding-of, step-made, arm-made, patterns-in, block-of}
+use Rattle.rows.proofs.Decode.{row-law, flagged-flag, list-numbers, list-patterns, names-of, by-place, ltb-suc}
 
 -- AN INTEGER'S VALUE
 

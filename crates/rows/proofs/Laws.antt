@@ -1,9 +1,9 @@
 -- Laws of the rows' words. Assumes nothing.
-use Prim.Native.Nat.{ℕ, zero, suc, _+_, _-_, _≤_, _<_}
-use mathlib.Core.Path.{_≡_, refl, sym, ap, _∙_}
+use Prim.Native.Nat.{ℕ, zero, suc, _+_, _-_, _≤_}
+use mathlib.Core.Path.{_≡_, refl}
 use mathlib.Core.Bool.{Bool, true, false, cond}
-use mathlib.Core.List.{List, [], _∷_, _++_}
-use mathlib.Core.Option.{Option, some, none}
+use mathlib.Core.List.{List, [], _∷_}
+use mathlib.Core.Option.{Option, none}
 use native.Mathlib.Omega.{arith}
 use lib.Dec.{eqb}
 use lib.ListN.{length, getD}
@@ -13,12 +13,12 @@ use Rattle.plan.specs.Layout.{row}
 use Rattle.values.specs.declared.Next.{Next}
 use Rattle.values.specs.declared.Next.the-variants.{At, No}
 use Rattle.values.specs.Words.{Holds, Wrote}
-use Rattle.rows.specs.Row.{where-laid}
+use Rattle.rows.specs.Row.{if-values}
 
-pub laid : (line : List ℕ) (k n : ℕ) (p : Next) → k + 1 ≡ length (split (eqb 32) line) → k ≡ n → p ≡ where-laid (n + 1) line p
+pub laid : (line : List ℕ) (k n : ℕ) (p : Next) → k + 1 ≡ length (split (eqb 32) line) → k ≡ n → p ≡ if-values (n + 1) line p
 laid line k n p e h = rw (eq-eqb (length (split (eqb 32) line)) (n + 1) (omega arith))
 
-pub not-laid : (line : List ℕ) (k n : ℕ) (p : Next) → k + 1 ≡ length (split (eqb 32) line) → (k ≡ n → ⊥) → No ≡ where-laid (n + 1) line p
+pub not-laid : (line : List ℕ) (k n : ℕ) (p : Next) → k + 1 ≡ length (split (eqb 32) line) → (k ≡ n → ⊥) → No ≡ if-values (n + 1) line p
 not-laid line k n p e h = rw (ne-eqb (length (split (eqb 32) line)) (n + 1) (λ q. h (omega arith)))
 
 pub sort-past : (sorts : List ℕ) (k : ℕ) → length sorts ≤ k → 0 ≡ getD sorts k 0
@@ -27,7 +27,7 @@ sort-past (s ∷ sorts) zero h = absurd (omega arith)
 sort-past (s ∷ sorts) (suc k) h = sort-past sorts k (omega arith)
 
 -- from a place that the count of the values leaves
-pub row-laid : {old new : List ℕ} {p q r : Next} (n : ℕ) (line : List ℕ) (read : List (List ℕ) → Option (List ℕ)) → q ≡ where-laid n line p
+pub row-laid : {old new : List ℕ} {p q r : Next} (n : ℕ) (line : List ℕ) (read : List (List ℕ) → Option (List ℕ)) → q ≡ if-values n line p
     → Wrote old q (read (split (eqb 32) line)) r new → Wrote old p (row n read line) r new
 unfolding row Holds
 row-laid {old = old} {new = new} {p = p} {q = q} {r = r} n line read e w = by-test (eqb (length (split (eqb 32) line)) n) e where

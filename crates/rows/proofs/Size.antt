@@ -1,19 +1,18 @@
 -- How many words a row has: no fewer than its header, no more than its line has bytes with its LF. Assumes nothing.
 use Prim.Native.Nat.{ℕ, zero, suc, _+_, _-_, _≤_, _<_}
-use mathlib.Core.Path.{_≡_, refl, sym, ap, _∙_}
+use mathlib.Core.Path.{_≡_, refl}
 use mathlib.Core.Bool.{Bool, true, false, cond}
-use mathlib.Core.List.{List, [], _∷_, _++_}
+use mathlib.Core.List.{List, [], _∷_}
 use mathlib.Core.Option.{Option, some, none}
 use native.Mathlib.Omega.{arith}
-use lib.Dec.{eqb, ltb}
+use lib.Dec.{eqb}
 use lib.ListN.{length, getD, drop, length-append}
 use borrow.Author.Tests.{eqb-true, eqb-false}
 use Rattle.text.specs.Split.{push, split, same}
-use Rattle.plan.specs.Plan.{Field, FunctionKind}
 use Rattle.plan.specs.Layout.{_⊛_, number, is, unused, bit, only, number-to, function-kind, field, pattern-binding, row, at}
 use Rattle.tokens.proofs.Laws.{parts-some}
 use Rattle.values.specs.Words.{_⧺_, word}
-use Rattle.values.specs.Value.{flag, function-word, threshold, cell, Wide, wide-words, pad, integer, wide, kind-word}
+use Rattle.values.specs.Value.{threshold, cell, Wide, wide-words, integer, wide}
 use Rattle.lists.proofs.Laws.{field-two, field-other}
 use Rattle.lists.specs.Items.{pattern-word, field-words, item, items, list-words}
 use Rattle.rows.specs.Row.{options-words, type-words, variant-words, term-words, generated-words, binding-words, block-words, text-words, row-words, header, Within, Sized}

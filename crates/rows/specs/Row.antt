@@ -15,9 +15,9 @@ use Rattle.values.specs.Words.{_⧺_, word}
 use Rattle.values.specs.Value.{cell, wide, wide-words, kind-word}
 use Rattle.lists.specs.Items.{list-words}
 
--- a place that a test leaves
-abbrev pub where-laid : ℕ → List ℕ → Next → Next
-where-laid n line p = cond (eqb (length (split (eqb 32) line)) n) p No
+-- the place, if the line has n values
+abbrev pub if-values : ℕ → List ℕ → Next → Next
+if-values n line p = cond (eqb (length (split (eqb 32) line)) n) p No
 
 -- `nopragmas log split threshold`
 unfoldable pub options-words : List ℕ → Option (List ℕ)

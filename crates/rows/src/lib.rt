@@ -2,16 +2,15 @@
 use tokens::Number;
 use values::Next;
 ghost use mathlib.Core.Path.{_≡_};
-ghost use Prim.Native.Nat.{ℕ, _+_, _-_, _≤_, _<_};
+ghost use Prim.Native.Nat.{_+_, _-_, _<_};
 ghost use lib.ListN.{length, getD};
-ghost use Rattle.tokens.specs.Token.{place};
 ghost use Rattle.values.specs.Words.{Wrote};
-ghost use Rattle.rows.specs.Row.{where-laid, options-words, type-words, variant-words, term-words, generated-words, binding-words, block-words, text-words, row-words};
+ghost use Rattle.rows.specs.Row.{if-values, options-words, type-words, variant-words, term-words, generated-words, binding-words, block-words, text-words, row-words};
 
 // The place, if the line has n spaces, so n + 1 values.
 fn spaced(line: &[u8], n: usize, at: Next) -> Next
     requires { ⌜ n < 65536 ⌝ }
-    ensures { λ r. ⌜ r ≡ where-laid (n + 1) (now (line .entry)) at ⌝ }
+    ensures { λ r. ⌜ r ≡ if-values (n + 1) (now (line .entry)) at ⌝ }
 {
     if tokens::separators(line, 32) == n {
         return at;

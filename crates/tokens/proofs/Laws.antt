@@ -1,20 +1,18 @@
 -- Laws of the tokens' definitions at a place of a list. Assumes nothing.
 use Prim.Native.Nat.{ℕ, zero, suc, _+_, _-_, _*_, _^_, _≤_, _<_, min}
 use mathlib.Core.Path.{_≡_, refl, sym, ap, _∙_}
-use mathlib.Core.Bool.{Bool, true, false, cond, not, _&&_, _||_, and-false, and-true}
-use mathlib.Core.List.{List, [], _∷_, _++_, append-nil}
-use mathlib.Core.Option.{Option, some, none}
+use mathlib.Core.Bool.{Bool, true, false, cond, _&&_, _||_, and-false, and-true}
+use mathlib.Core.List.{List, [], _∷_}
+use mathlib.Core.Option.{some, none}
 use native.Mathlib.Omega.{arith}
 use native.Mathlib.Numerals.{add-one}
 use lib.Dec.{eqb, leb}
-use lib.ListN.{length, take, set, drop, getD, drop-of-length-le, length-drop}
+use lib.ListN.{length, take, drop, getD, drop-of-length-le, length-drop}
 use lib.Seq.{drop-cons, drop-drop, take-all}
 use borrow.Author.Tests.{eq-eqb, ne-eqb, le-leb, lt-leb, leb-true, leb-false}
-use Rattle.text.specs.Split.{null, push, split, same}
+use Rattle.text.specs.Split.{push, split, same}
 use Rattle.plan.specs.Layout.{digit, digits, decimal-from, beyond, number, hex-digit, hex-digits, hex-from}
-use Rattle.tokens.specs.Token.{until, place, numeral, hex-value, hex-numeral, told}
-use Rattle.tokens.specs.declared.Number.{Number}
-use Rattle.tokens.specs.declared.Number.the-variants.{Value, Wrong}
+use Rattle.tokens.specs.Token.{until, place, numeral, hex-value, hex-numeral}
 
 pub until-end : (b : ℕ) (s : List ℕ) (i : ℕ) → length s ≤ i → until b (drop i s) ≡ 0
 unfolding until

@@ -1,10 +1,9 @@
 -- Tokens of a text: what the code finds between separators. Assumes nothing: these are definitions.
 use Prim.Native.Nat.{ℕ, suc, _-_, min}
-use mathlib.Core.Bool.{Bool, true, false, cond, _&&_}
+use mathlib.Core.Bool.{cond}
 use mathlib.Core.Option.{Option, some, none}
 use mathlib.Core.List.{List, [], _∷_}
 use lib.Dec.{eqb}
-use lib.ListN.{length}
 use Rattle.text.specs.Split.{same}
 use Rattle.plan.specs.Layout.{digits, decimal-from, beyond, digit, hex-digit, hex-digits, hex-from}
 use Rattle.tokens.specs.declared.Number.{Number}

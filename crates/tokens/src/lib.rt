@@ -1,9 +1,9 @@
 // Tokens of a text: parts between separators, names, numbers.
 ghost use mathlib.Core.Path.{_≡_};
-ghost use Prim.Native.Nat.{ℕ, _+_, _-_, _*_, _≤_, _<_, min};
+ghost use Prim.Native.Nat.{_+_, _-_, _*_, _≤_, _<_, min};
 ghost use mathlib.Core.List.{[]};
 ghost use lib.Dec.{eqb};
-ghost use lib.ListN.{length, take, drop, getD};
+ghost use lib.ListN.{length, drop, getD};
 ghost use Rattle.text.specs.Split.{split, same};
 ghost use Rattle.plan.specs.Layout.{number, beyond};
 ghost use Rattle.tokens.specs.Token.{until, place, numeral, hex-value, hex-numeral, told};

@@ -1,15 +1,15 @@
 -- Laws of the words that are written, and of the values. Assumes nothing.
-use Prim.Native.Nat.{ℕ, zero, suc, _+_, _-_, _*_, _≤_, _<_, min}
+use Prim.Native.Nat.{ℕ, zero, suc, _+_, _-_, _≤_, _<_, min}
 use mathlib.Core.Path.{_≡_, refl, sym, ap, _∙_}
 use mathlib.Core.Bool.{Bool, true, false, cond, not, _&&_}
 use mathlib.Core.List.{List, [], _∷_, _++_, append-nil, append-assoc}
 use mathlib.Core.Option.{Option, some, none}
 use native.Mathlib.Omega.{arith}
 use native.Mathlib.Numerals.{add-one}
-use lib.Dec.{eqb, leb, ltb}
-use lib.ListN.{length, take, set, drop, getD, length-append, length-set, length-drop}
-use lib.Seq.{take-suc-set, append-snoc, take-all, drop-drop}
-use borrow.Author.Tests.{eq-eqb, ne-eqb, le-leb, lt-leb, leb-true, leb-false, lt-ltb, le-ltb}
+use lib.Dec.{eqb}
+use lib.ListN.{length, take, set, drop, length-append, length-set, length-drop}
+use lib.Seq.{take-suc-set, take-all, drop-drop}
+use borrow.Author.Tests.{eq-eqb, ne-eqb}
 use Rattle.text.specs.Split.{null}
 use Rattle.plan.specs.Layout.{_⊛_, digits, decimal-from, beyond, number, hex-digit, hex-digits, hex-from}
 use Rattle.tokens.specs.Token.{hex-numeral, told}
@@ -18,7 +18,7 @@ use Rattle.tokens.specs.declared.Number.the-variants.{Value, Wrong}
 use Rattle.values.specs.declared.Next.{Next}
 use Rattle.values.specs.declared.Next.the-variants.{At, No}
 use Rattle.values.specs.Words.{_⧺_, word, said, Holds, Wrote}
-use Rattle.values.specs.Value.{cell, wide-words, pad, integer, wide, kind-word}
+use Rattle.values.specs.Value.{cell, wide-words, pad, integer, wide}
 
 -- words after words
 

@@ -1,10 +1,10 @@
 -- The values of a row, as words. Assumes nothing: these are definitions.
-use Prim.Native.Nat.{ℕ, suc, _+_, _*_}
+use Prim.Native.Nat.{ℕ, _+_, _*_}
 use mathlib.Core.Bool.{Bool, true, false, cond, _&&_}
 use mathlib.Core.Option.{Option, some, none}
 use mathlib.Core.List.{List, [], _∷_}
 use lib.Dec.{eqb, ltb}
-use lib.ListN.{length, getD, take, drop}
+use lib.ListN.{length, take, drop}
 use Rattle.plan.specs.Plan.{FunctionKind, absent, internal, external}
 use Rattle.plan.specs.Layout.{_⊛_, number, is, unused, bit, number-to, hex-digits, hex-from, function-kind, default-threshold}
 

@@ -4,7 +4,6 @@ use mathlib.Core.Path.{_≡_}
 use mathlib.Core.Option.{Option, some, none}
 use mathlib.Core.List.{List, [], _∷_, _++_}
 use lib.ListN.{length, take}
-use Rattle.plan.specs.Layout.{_⊛_}
 use Rattle.tokens.specs.declared.Number.{Number}
 use Rattle.tokens.specs.declared.Number.the-variants.{Value, Wrong}
 use Rattle.values.specs.declared.Next.{Next}

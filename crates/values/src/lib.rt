@@ -1,10 +1,10 @@
 // The values of a row, from a text into words.
 use tokens::Number;
 ghost use mathlib.Core.Path.{_≡_};
-ghost use Prim.Native.Nat.{ℕ, _+_, _-_, _≤_, _<_};
+ghost use Prim.Native.Nat.{_+_, _-_, _≤_, _<_};
 ghost use mathlib.Core.List.{[]};
 ghost use lib.Dec.{eqb};
-ghost use lib.ListN.{length, take, drop, getD};
+ghost use lib.ListN.{getD};
 ghost use Rattle.text.specs.Split.{split};
 ghost use Rattle.plan.specs.Layout.{_⊛_, number-to, function-kind, bit};
 ghost use mathlib.Core.Option.{some};

@@ -5,7 +5,7 @@ ghost use Rattle.rows.specs.View.{nth};
 ghost use Rattle.layout.specs.View.{cut};
 
 // A word as an index.
-fn wide(w: u32) -> usize
+pub fn wide(w: u32) -> usize
     ensures { λ r. ⌜ r ≡ w ⌝ }
 {
     w as usize

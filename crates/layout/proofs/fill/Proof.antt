@@ -1,16 +1,16 @@
-use mathlib.Core.Path.{_≡_, refl, sym, ap, _∙_}
+use mathlib.Core.Path.{_≡_, sym, _∙_}
 use native.Mathlib.Omega.{arith}
 use borrow.Author.Needs.{needs}
-use borrow.Author.Tests.{eq-eqb, ne-eqb, lt-ltb, le-ltb, not-true, not-false}
+use borrow.Author.Tests.{not-true, not-false}
 use Prim.Native.Nat.{ℕ, _+_, _-_, _*_, _≤_, _<_}
-use mathlib.Core.Bool.{Bool, true, false, cond}
+use mathlib.Core.Bool.{false, cond}
 use mathlib.Core.List.{List}
 use lib.Dec.{eqb}
 use lib.ListN.{length, take, drop, length-set, length-take, length-drop}
 use Rattle.text.specs.Split.{split}
 use Rattle.layout.specs.Scan.{scan, add, Fill}
 use Rattle.layout.specs.declared.Filled.{Filled}
-use Rattle.layout.specs.declared.Filled.the-variants.{To, Bad}
+use Rattle.layout.specs.declared.Filled.the-variants.{Bad}
 use Rattle.layout.proofs.Laws.{scan-empty, scan-row, scan-first, scan-other, scan-inside, end-text, end-inside, end-kind, end-here, fill-none, fill-close, fill-add, row-none, row-some, first-long}
 use Rattle.layout.proofs.fill.Statement.{statement}
 use Rattle.layout.proofs.fill.Tie as tie
@@ -106,7 +106,7 @@ same-length-12 c = search needs
 
 -- src/lib.rt:86:13
 returns-4 : tie.Need-returns-4 Inv-loop μ-loop
-returns-4 c = (c .before .before .before .before .before .before .loop .inv .7 _ _ _ _ (rw (c .before .if3 .left, end-here _ _ _ _ (c .before .before .before .before .before .find .ensures .0) (c .before .before .before .if1 .taken) (c .before .before .if2 .left) (sym (c .before .before .before .before .sort-at .ensures) ∙ c .if4 .left)) (fill-none _ _ _ _ _ _)), omega arith)
+returns-4 c = (c .before .before .before .before .before .before .loop .inv .7 _ _ _ _ (rw (c .before .if3 .left, end-here _ _ _ _ (c .before .before .before .before .before .find .ensures .0) (c .before .before .before .if1 .taken) (c .before .before .if2 .left) (sym (c .before .before .before .before .sort-at .ensures) ∙ c .if4 .left)) (fill-none _ _ _ _ _ _)), (omega arith, omega arith, omega arith, sym (c .before .before .before .before .sort-at .ensures) ∙ c .if4 .left))
 
 -- src/lib.rt:88:20
 add-next : tie.Need-add-next Inv-loop μ-loop

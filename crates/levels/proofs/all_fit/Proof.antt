@@ -1,18 +1,14 @@
-use Prim.Native.Nat.{ℕ, _+_, _-_, _≤_, _<_}
-use mathlib.Core.Path.{_≡_, refl, sym, ap, _∙_}
-use mathlib.Core.Bool.{true, false}
-use mathlib.Core.List.{List, [], _∷_, map}
+use Prim.Native.Nat.{_+_, _-_, _≤_}
+use mathlib.Core.Path.{_≡_, refl, sym, _∙_}
 use native.Mathlib.Omega.{arith}
 use native.Mathlib.Nat.{sub-zero}
 use borrow.Author.Needs.{needs}
-use borrow.Author.Tests.{eq-eqb, ne-eqb, not-true, not-false}
-use lib.ListN.{length, take, getD, length-set}
-use Rattle.plan.specs.Layout.{nested, steps}
-use Rattle.rows.specs.View.{block-of}
+use borrow.Author.Tests.{not-true, not-false}
+use lib.ListN.{length}
 use Rattle.layout.specs.Scan.{shaped}
-use Rattle.layout.specs.View.{cut, cuts, tables-of}
-use Rattle.levels.specs.Level.{below-at, stands, below-code}
-use Rattle.levels.proofs.Laws.{nested-deep, nested-not, nested-next, cuts-next, table-rows, table-one, table-block, table-any, shaped-not, shaped-next, shaped-none, nested-none, stack-start}
+use Rattle.layout.specs.View.{cuts, tables-of}
+use Rattle.words.proofs.Tables.{cuts-next, table-rows}
+use Rattle.levels.proofs.Laws.{shaped-not, shaped-next, shaped-none}
 use Rattle.levels.proofs.all_fit.Statement.{statement}
 use Rattle.levels.proofs.all_fit.Tie as tie
 use Rattle.levels.proofs.all_fit.Reads as reads

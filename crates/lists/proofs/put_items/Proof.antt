@@ -1,15 +1,12 @@
-use mathlib.Core.Path.{_≡_, refl, sym, ap, _∙_}
+use mathlib.Core.Path.{_≡_, _∙_}
 use native.Mathlib.Omega.{arith}
 use borrow.Author.Needs.{needs}
-use borrow.Author.Tests.{eq-eqb, ne-eqb}
-use Rattle.plan.specs.Layout.{_⊛_, number, pattern-binding}
-use Rattle.values.specs.Words.{word, Wrote}
-use Rattle.values.proofs.Laws.{_⟫_, told-word, wrote-none, wrote-nothing}
-use Rattle.lists.specs.Items.{item, items, list-words}
-use Rattle.lists.proofs.Laws.{field-two, field-other, items-last, items-more}
-use Rattle.tokens.specs.Token.{told}
-use Prim.Native.Nat.{ℕ, _+_, _-_, _≤_, _<_}
-use mathlib.Core.List.{List, []}
+use Rattle.values.specs.Words.{Wrote}
+use Rattle.values.proofs.Laws.{_⟫_}
+use Rattle.lists.specs.Items.{items}
+use Rattle.lists.proofs.Laws.{items-last, items-more}
+use Prim.Native.Nat.{ℕ, _-_, _≤_, _<_}
+use mathlib.Core.List.{List}
 use lib.Dec.{eqb}
 use lib.ListN.{length, drop}
 use Rattle.text.specs.Split.{split}

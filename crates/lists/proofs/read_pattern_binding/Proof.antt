@@ -1,11 +1,5 @@
-use mathlib.Core.Path.{_≡_, refl, sym, ap, _∙_}
-use native.Mathlib.Omega.{arith}
-use borrow.Author.Tests.{eq-eqb, ne-eqb}
-use Rattle.plan.specs.Layout.{_⊛_, number, pattern-binding}
-use Rattle.values.specs.Words.{word, Wrote}
-use Rattle.values.proofs.Laws.{_⟫_, told-word, wrote-none, wrote-nothing}
-use Rattle.lists.specs.Items.{item, items, list-words}
-use Rattle.lists.proofs.Laws.{field-two, field-other, items-last, items-more}
+use mathlib.Core.Path.{sym, ap, _∙_}
+use Rattle.plan.specs.Layout.{_⊛_, pattern-binding}
 use Rattle.tokens.specs.Token.{told}
 use Rattle.lists.proofs.Laws.{pattern-number}
 use borrow.Author.Needs.{needs}

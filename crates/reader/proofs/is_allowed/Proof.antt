@@ -1,11 +1,5 @@
-use Prim.Native.Nat.{ℕ, _+_, _-_, _≤_, _<_}
-use mathlib.Core.Path.{_≡_, refl, sym, ap, _∙_}
-use native.Mathlib.Omega.{arith}
-use borrow.Author.Needs.{needs}
-use borrow.Author.Tests.{eq-eqb, ne-eqb, le-leb, lt-leb, not-true, not-false}
-use lib.ListN.{length, drop, length-set, length-replicate}
-use Rattle.plan.specs.Refusal.{every, allowed, bytes-allowed}
-use Rattle.reader.proofs.Laws.{every-end, every-not, every-next, reading-long, reading-byte, says-bad, says-index, says-not, says-read, says-refused, says-held, first-zero, number-refused, number-held}
+use Prim.Native.Nat.{_-_}
+use borrow.Author.Tests.{eq-eqb, ne-eqb, le-leb, lt-leb}
 use Rattle.reader.proofs.is_allowed.Statement.{statement}
 use Rattle.reader.proofs.is_allowed.Tie as tie
 use Rattle.reader.proofs.is_allowed.Reads as reads

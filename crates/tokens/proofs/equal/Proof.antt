@@ -1,14 +1,11 @@
 -- `text::equal` meets its contract: the rests from i on are the same where the texts are.
 -- Assumes nothing.
-use Prim.Native.Nat.{ℕ, _+_, _-_, _≤_, _<_}
-use mathlib.Core.Path.{_≡_, refl, sym, ap, _∙_}
-use mathlib.Core.Logic.{⊎-elim}
-use mathlib.Core.List.{List, []}
+use Prim.Native.Nat.{_-_, _≤_, _<_}
+use mathlib.Core.Path.{_≡_, sym, _∙_}
 use native.Mathlib.Omega.{arith}
 use borrow.Author.Needs.{needs}
-use lib.ListN.{length, take, drop, getD, length-set, length-drop}
-use lib.Seq.{getD-drop}
-use Rattle.text.specs.Split.{split, same}
+use lib.ListN.{length, drop}
+use Rattle.text.specs.Split.{same}
 use Rattle.tokens.proofs.Laws.{same-short, same-end, same-next, same-differ}
 use Rattle.tokens.proofs.equal.Statement.{statement}
 use Rattle.tokens.proofs.equal.Tie as tie

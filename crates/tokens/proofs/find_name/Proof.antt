@@ -1,14 +1,11 @@
 -- `text::find_name` meets its contract: the place among the names from i on, with those before, is the place among all.
 -- Assumes nothing.
-use Prim.Native.Nat.{ℕ, _+_, _-_, _≤_, _<_}
-use mathlib.Core.Path.{_≡_, refl, sym, ap, _∙_}
-use mathlib.Core.Logic.{⊎-elim}
-use mathlib.Core.List.{List, []}
+use Prim.Native.Nat.{_+_, _-_, _≤_, _<_}
+use mathlib.Core.Path.{_≡_, sym, _∙_}
 use native.Mathlib.Omega.{arith}
 use borrow.Author.Needs.{needs}
 use lib.Dec.{eqb}
-use lib.ListN.{length, take, drop, getD, length-set, length-drop}
-use lib.Seq.{getD-drop}
+use lib.ListN.{length, drop}
 use Rattle.text.specs.Split.{split}
 use Rattle.tokens.specs.Token.{place}
 use Rattle.tokens.proofs.Laws.{place-here, place-last, place-more}

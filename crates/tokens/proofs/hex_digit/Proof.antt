@@ -1,4 +1,4 @@
-use mathlib.Core.Path.{_≡_, refl, sym, ap, _∙_}
+use mathlib.Core.Path.{sym, _∙_}
 use native.Mathlib.Omega.{arith}
 use Rattle.tokens.proofs.Laws.{hex-below, hex-decimal, hex-between, hex-letter, hex-above}
 use borrow.Author.Needs.{needs}

@@ -1,14 +1,12 @@
 -- `tokens::separators` meets its contract: the parts that are left from i on, with those before, are all.
 -- Assumes nothing.
-use Prim.Native.Nat.{ℕ, _+_, _-_, _≤_, _<_}
-use mathlib.Core.Path.{_≡_, refl, sym, ap, _∙_}
+use Prim.Native.Nat.{_+_, _-_, _≤_}
+use mathlib.Core.Path.{_≡_}
 use mathlib.Core.Logic.{⊎-elim}
-use mathlib.Core.List.{List, []}
 use native.Mathlib.Omega.{arith}
 use borrow.Author.Needs.{needs}
 use lib.Dec.{eqb}
-use lib.ListN.{length, take, drop, getD, length-set, length-drop}
-use lib.Seq.{getD-drop}
+use lib.ListN.{length, drop}
 use Rattle.text.specs.Split.{split}
 use Rattle.tokens.proofs.Laws.{parts-end, parts-byte, parts-other}
 use Rattle.tokens.proofs.separators.Statement.{statement}

@@ -1,9 +1,7 @@
-use mathlib.Core.Path.{_≡_, refl, sym, ap, _∙_}
-use native.Mathlib.Omega.{arith}
-use borrow.Author.Tests.{eq-eqb, ne-eqb, lt-ltb, le-ltb}
+use mathlib.Core.Path.{_∙_}
+use borrow.Author.Tests.{ne-eqb}
 use Rattle.plan.specs.Layout.{_⊛_}
-use Rattle.values.specs.Words.{said, word}
-use Rattle.values.specs.Value.{integer, wide, kind-word}
+use Rattle.values.specs.Value.{integer}
 use Rattle.values.proofs.Laws.{_⟫_, told-word, wrote-none, integer-words, eight}
 use Rattle.tokens.specs.Token.{hex-numeral}
 use borrow.Author.Needs.{needs}

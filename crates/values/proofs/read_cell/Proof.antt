@@ -1,7 +1,4 @@
-use mathlib.Core.Path.{_≡_, refl, sym, ap, _∙_}
-use native.Mathlib.Omega.{arith}
-use borrow.Author.Tests.{eq-eqb, ne-eqb, le-leb, lt-leb}
-use Rattle.tokens.specs.Token.{told}
+use borrow.Author.Tests.{eq-eqb, ne-eqb}
 use Rattle.values.specs.Value.{cell}
 use borrow.Author.Needs.{needs}
 use Rattle.values.proofs.read_cell.Statement.{statement}

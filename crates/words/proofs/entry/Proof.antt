@@ -1,6 +1,5 @@
-use mathlib.Core.Path.{_≡_, refl, sym, ap, _∙_}
-use native.Mathlib.Omega.{arith}
-use Rattle.words.proofs.Laws.{past-end, no-row, no-word, no-room, a-word}
+use mathlib.Core.Path.{sym}
+use Rattle.words.proofs.Laws.{past-end}
 use borrow.Author.Needs.{needs}
 use Rattle.words.proofs.entry.Statement.{statement}
 use Rattle.words.proofs.entry.Tie as tie

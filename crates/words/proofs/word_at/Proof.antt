@@ -1,6 +1,5 @@
-use mathlib.Core.Path.{_≡_, refl, sym, ap, _∙_}
 use native.Mathlib.Omega.{arith}
-use Rattle.words.proofs.Laws.{past-end, no-row, no-word, no-room, a-word}
+use Rattle.words.proofs.Laws.{no-row, no-word, no-room, a-word}
 use borrow.Author.Needs.{needs}
 use Rattle.words.proofs.word_at.Statement.{statement}
 use Rattle.words.proofs.word_at.Tie as tie
