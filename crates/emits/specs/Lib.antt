@@ -1,4 +1,5 @@
 pub mod Place
 pub mod Emits
 pub mod Pieces
+pub mod Rows
 pub mod Marks
