@@ -1,0 +1,5 @@
+pub mod Every
+pub mod Blocks
+pub mod Counts
+pub mod Lists
+pub mod Marks

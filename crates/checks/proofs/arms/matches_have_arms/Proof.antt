@@ -1,0 +1,81 @@
+use Prim.Native.Nat.{ℕ, _+_, _-_, _*_, _/_, _≤_, _<_}
+use mathlib.Core.Path.{_≡_, refl, sym, ap, _∙_}
+use mathlib.Core.Bool.{Bool, true, false, not, _&&_, _||_}
+use mathlib.Core.List.{List, [], map}
+use native.Mathlib.Omega.{arith}
+use borrow.Author.Needs.{needs}
+use borrow.Author.Tests.{eq-eqb, ne-eqb, lt-ltb, le-ltb, le-leb, lt-leb, not-true, not-false}
+use lib.ListN.{length, getD, drop}
+use Rattle.plan.specs.Refusal.{every, matches-armed, returns-last, loop-fits, generated-most}
+use Rattle.rows.specs.View.{nth, term-of, binding-of, block-of, type-of, variant-of}
+use Rattle.layout.specs.View.{cut, cuts}
+use Rattle.view.specs.Tables.{table-rows, generated-at, generated-from, plan-in}
+use Rattle.checks.specs.Within.{list-within}
+use Rattle.checks.proofs.Every.{rows-start, rows-true, rows-false, rows-end, list-true, list-false, list-end, generated-true, generated-false, generated-end}
+use Rattle.checks.proofs.Blocks.{no-match, match-alone, match-below, armed-true, armed-false, armed-end, armed-plan, ended-true, ended-false, ended-end, a-loop, no-return, return-alone, return-before, returns-right, returns-plan, not-step, step-fits, binding-is, iterates, iterates-at, iterates-plan}
+use Rattle.checks.proofs.Counts.{fields-within, row-within, environment-tests, generated-tests, within-tests}
+use Rattle.checks.proofs.arms.matches_have_arms.Statement.{statement}
+use Rattle.checks.proofs.arms.matches_have_arms.Tie as tie
+use Rattle.checks.proofs.arms.matches_have_arms.Reads as reads
+use Rattle.checks.proofs.arms.matches_have_arms.Lts as lts
+use Rattle.checks.proofs.arms.block_armed.Reads as block-armed-reads
+
+abbrev Inv-loop : tie.InvT-loop
+Inv-loop words rows tables t₀ t = (t ≤ length tables + 7) × (every (λ g. matches-armed (g .rows)) (generated-from words rows tables t) ≡ every (λ g. matches-armed (g .rows)) (generated-from words rows tables 7))
+
+abbrev μ-loop : tie.MeasureT-loop
+μ-loop words rows tables t₀ t = length tables - t
+
+-- src/arms.rt:48:5
+loop-holds : tie.Need-loop-holds Inv-loop μ-loop
+loop-holds c = (omega arith, refl)
+
+-- src/arms.rt:48:11
+add-loop : tie.Need-add-loop Inv-loop μ-loop
+add-loop c = search needs
+
+-- src/arms.rt:49:46
+add-block-armed : tie.Need-add-block-armed Inv-loop μ-loop
+add-block-armed c = search needs
+
+-- src/arms.rt:49:13
+block-armed-requires : tie.Need-block-armed-requires Inv-loop μ-loop
+block-armed-requires c κs = search needs
+
+-- src/arms.rt:50:13
+returns : tie.Need-returns Inv-loop μ-loop
+unfolding generated-at
+returns c = λ plan. sym (generated-false (λ g. matches-armed (g .rows)) (c .before .before .before .before .before .before .before .args .words .now) (c .before .before .before .before .before .before .before .args .rows .now) (c .before .before .before .before .before .before .before .args .tables .now) (c .before .before .before .loop .t) (c .before .before .loop-test .taken) (sym (c .before .block-armed .ensures) ∙ not-true _ (c .if1 .taken))) ∙ c .before .before .before .loop .inv .1 ∙ armed-plan plan (c .before .before .before .before .before .before .before .args .words .now) (c .before .before .before .before .before .before .before .args .rows .now) (c .before .before .before .before .before .before .before .args .tables .now)
+
+-- src/arms.rt:52:9
+add-t : tie.Need-add-t Inv-loop μ-loop
+add-t c = search needs
+
+-- src/arms.rt:48:5
+loop-less : tie.Need-loop-less Inv-loop μ-loop
+loop-less c = search needs
+
+-- src/arms.rt:48:5
+loop-again : tie.Need-loop-again Inv-loop μ-loop
+unfolding generated-at
+loop-again c = (omega arith, sym (generated-true (λ g. matches-armed (g .rows)) (c .before .before .before .before .before .before .before .args .words .now) (c .before .before .before .before .before .before .before .args .rows .now) (c .before .before .before .before .before .before .before .args .tables .now) (c .before .before .before .loop .t) (c .before .before .loop-test .taken) (sym (c .before .block-armed .ensures) ∙ not-false _ (c .if1 .left))) ∙ c .before .before .before .loop .inv .1)
+
+-- src/arms.rt:44:1
+returns-2 : tie.Need-returns-2 Inv-loop μ-loop
+returns-2 c = λ plan. sym (generated-end (λ g. matches-armed (g .rows)) (c .before .before .before .before .before .args .words .now) (c .before .before .before .before .before .args .rows .now) (c .before .before .before .before .before .args .tables .now) (c .before .loop .t) (c .loop-test .left)) ∙ c .before .loop .inv .1 ∙ armed-plan plan (c .before .before .before .before .before .args .words .now) (c .before .before .before .before .before .args .rows .now) (c .before .before .before .before .before .args .tables .now)
+
+pub matches-have-arms-spec : {M : Type 1} → statement M
+matches-have-arms-spec =
+    tie.close
+    (tie.spec
+    Inv-loop
+    μ-loop
+    loop-holds
+    add-loop
+    add-block-armed
+    block-armed-requires
+    returns
+    add-t
+    loop-less
+    loop-again
+    returns-2)

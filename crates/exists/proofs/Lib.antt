@@ -1,0 +1,3 @@
+pub mod Sorts
+pub mod Rows
+pub mod Judged

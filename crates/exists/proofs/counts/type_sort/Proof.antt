@@ -1,0 +1,73 @@
+use Prim.Native.Nat.{ℕ, suc, _+_, _-_, _*_, _≤_, _<_}
+use mathlib.Core.Path.{_≡_, refl, sym, ap, _∙_}
+use mathlib.Core.Bool.{Bool, true, false, _&&_}
+use mathlib.Core.List.{List, [], map}
+use native.Mathlib.Omega.{arith}
+use borrow.Author.Tests.{eq-eqb, ne-eqb, lt-ltb, le-ltb, not-true, not-false}
+use lib.Dec.{ltb, eqb}
+use lib.ListN.{length, getD, drop}
+use Rattle.plan.specs.Lookup.{field-count, fields-of, variant-at}
+use Rattle.plan.specs.Refusal.{every, type-refers, variant-refers, term-refers, binding-refers, constraint-refers, control-flow-refers, row-refers, generated-refers, all-exist, source-count, pattern-count, lengths-fit, judged}
+use Rattle.rows.specs.View.{nth, type-of, variant-of, term-of, binding-of, block-of}
+use Rattle.layout.specs.View.{cut, cuts}
+use Rattle.view.specs.Tables.{table-rows, environment-in, generated-at, generated-from, plan-in}
+use Rattle.view.specs.Told.{control-flow-of, constraint-of, control-flow-told, constraint-told}
+use Rattle.view.proofs.Plans.{syms-count, poss-count, types-count, terms-count, term-is, generated-is}
+use Rattle.checks.proofs.Every.{rows-start, rows-true, rows-false, rows-end, generated-true, generated-false, generated-end}
+use Rattle.exists.specs.Ready.{Ready, row-exists, row-fits}
+use Rattle.exists.proofs.Sorts.{sort-builtin, sort-past, sort-prim, sort-enum, sort-struct, variants-found, fields-builtin, fields-past, fields-at, count-at, count-start, count-other, count-same, count-later, count-end, fields-none, fields-found}
+use Rattle.exists.proofs.Rows.{step-refers, arm-refers, step-length, arm-length, generated-tests, exist-tests, lengths-right, lengths-at, lengths-plan}
+use Rattle.exists.proofs.Judged.{few-types, few-variants, arguments-are-few}
+use borrow.Author.Needs.{needs}
+use Rattle.exists.proofs.counts.type_sort.Statement.{statement}
+use Rattle.exists.proofs.counts.type_sort.Tie as tie
+use Rattle.exists.proofs.counts.type_sort.Reads as reads
+use Rattle.exists.proofs.counts.type_sort.Lts as lts
+use Rattle.view.proofs.row_at.Reads as row-at-reads
+use Rattle.view.proofs.row_count.Reads as row-count-reads
+use Rattle.view.proofs.word.Reads as word-reads
+
+-- src/counts.rt:43:9
+returns : tie.Need-returns
+returns c = λ plan. sort-builtin plan (c .before .before .before .before .args .words .now) (c .before .before .before .before .args .rows .now) (c .before .before .before .before .args .tables .now) (c .before .before .before .before .args .n) (c .if1 .taken)
+
+-- src/counts.rt:45:8
+row-count-requires : tie.Need-row-count-requires
+row-count-requires c κs = search needs
+
+-- src/counts.rt:46:9
+returns-2 : tie.Need-returns-2
+returns-2 c = λ plan. sort-past plan (c .before .before .before .before .before .before .args .words .now) (c .before .before .before .before .before .before .args .rows .now) (c .before .before .before .before .before .before .args .tables .now) (c .before .before .before .before .before .before .args .n) (c .before .before .if1 .left) (omega (arith, c .before .row-count .ensures .0 (c .before .before .before .before .before .before .args .words .now) (c .before .before .before .before .before .before .args .rows .now)))
+
+-- src/counts.rt:48:37
+row-at-requires : tie.Need-row-at-requires
+row-at-requires c κs = search needs
+
+-- src/counts.rt:48:9
+word-requires : tie.Need-word-requires
+word-requires c κs = search needs
+
+-- src/counts.rt:50:9
+returns-3 : tie.Need-returns-3
+returns-3 c = λ plan. sort-prim plan (c .before .before .before .before .before .before .before .before .before .args .words .now) (c .before .before .before .before .before .before .before .before .before .args .rows .now) (c .before .before .before .before .before .before .before .before .before .args .tables .now) (c .before .before .before .before .before .before .before .before .before .args .n) (c .before .before .before .before .before .if1 .left) (omega (arith, c .before .before .before .before .row-count .ensures .0 (c .before .before .before .before .before .before .before .before .before .args .words .now) (c .before .before .before .before .before .before .before .before .before .args .rows .now))) (c .before .word .result) (c .before .word .ensures ∙ ap (λ (l : List ℕ). nth l 0) (c .before .before .row-at .ensures (c .before .before .before .before .before .before .before .before .before .args .words .now))) (c .if3 .taken)
+
+-- src/counts.rt:53:9
+returns-4 : tie.Need-returns-4
+returns-4 c = λ plan. sort-enum plan (c .before .before .before .before .before .before .before .before .before .before .args .words .now) (c .before .before .before .before .before .before .before .before .before .before .args .rows .now) (c .before .before .before .before .before .before .before .before .before .before .args .tables .now) (c .before .before .before .before .before .before .before .before .before .before .args .n) (c .before .before .before .before .before .before .if1 .left) (omega (arith, c .before .before .before .before .before .row-count .ensures .0 (c .before .before .before .before .before .before .before .before .before .before .args .words .now) (c .before .before .before .before .before .before .before .before .before .before .args .rows .now))) (c .before .before .word .result) (c .before .before .word .ensures ∙ ap (λ (l : List ℕ). nth l 0) (c .before .before .before .row-at .ensures (c .before .before .before .before .before .before .before .before .before .before .args .words .now))) (c .if4 .taken)
+
+-- src/counts.rt:39:1
+returns-5 : tie.Need-returns-5
+returns-5 c = λ plan. sort-struct plan (c .before .before .before .before .before .before .before .before .before .before .args .words .now) (c .before .before .before .before .before .before .before .before .before .before .args .rows .now) (c .before .before .before .before .before .before .before .before .before .before .args .tables .now) (c .before .before .before .before .before .before .before .before .before .before .args .n) (c .before .before .before .before .before .before .if1 .left) (omega (arith, c .before .before .before .before .before .row-count .ensures .0 (c .before .before .before .before .before .before .before .before .before .before .args .words .now) (c .before .before .before .before .before .before .before .before .before .before .args .rows .now))) (c .before .before .word .result) (c .before .before .word .ensures ∙ ap (λ (l : List ℕ). nth l 0) (c .before .before .before .row-at .ensures (c .before .before .before .before .before .before .before .before .before .before .args .words .now))) (c .before .if3 .left) (c .if4 .left)
+
+pub type-sort-spec : {M : Type 1} → statement M
+type-sort-spec =
+    tie.close
+    (tie.spec
+    returns
+    row-count-requires
+    returns-2
+    row-at-requires
+    word-requires
+    returns-3
+    returns-4
+    returns-5)

@@ -1,0 +1,109 @@
+use Prim.Native.Nat.{ℕ, suc, _+_, _-_, _*_, _≤_, _<_}
+use mathlib.Core.Path.{_≡_, refl, sym, ap, _∙_}
+use mathlib.Core.Bool.{Bool, true, false, _&&_}
+use mathlib.Core.List.{List, [], map}
+use native.Mathlib.Omega.{arith}
+use borrow.Author.Tests.{eq-eqb, ne-eqb, lt-ltb, le-ltb, not-true, not-false}
+use lib.Dec.{ltb, eqb}
+use lib.ListN.{length, getD, drop}
+use Rattle.plan.specs.Lookup.{field-count, fields-of, variant-at}
+use Rattle.plan.specs.Refusal.{every, type-refers, variant-refers, term-refers, binding-refers, constraint-refers, control-flow-refers, row-refers, generated-refers, all-exist, source-count, pattern-count, lengths-fit, judged}
+use Rattle.rows.specs.View.{nth, type-of, variant-of, term-of, binding-of, block-of}
+use Rattle.layout.specs.View.{cut, cuts}
+use Rattle.view.specs.Tables.{table-rows, environment-in, generated-at, generated-from, plan-in}
+use Rattle.view.specs.Told.{control-flow-of, constraint-of, control-flow-told, constraint-told}
+use Rattle.view.proofs.Plans.{syms-count, poss-count, types-count, terms-count, term-is, generated-is}
+use Rattle.checks.proofs.Every.{rows-start, rows-true, rows-false, rows-end, generated-true, generated-false, generated-end}
+use Rattle.exists.specs.Ready.{Ready, row-exists, row-fits}
+use Rattle.exists.proofs.Sorts.{sort-builtin, sort-past, sort-prim, sort-enum, sort-struct, variants-found, fields-builtin, fields-past, fields-at, count-at, count-start, count-other, count-same, count-later, count-end, fields-none, fields-found}
+use Rattle.exists.proofs.Rows.{step-refers, arm-refers, step-length, arm-length, generated-tests, exist-tests, lengths-right, lengths-at, lengths-plan}
+use Rattle.exists.proofs.Judged.{few-types, few-variants, arguments-are-few}
+use borrow.Author.Needs.{needs}
+use Rattle.exists.proofs.environment.type_refers.Statement.{statement}
+use Rattle.exists.proofs.environment.type_refers.Tie as tie
+use Rattle.exists.proofs.environment.type_refers.Reads as reads
+use Rattle.exists.proofs.environment.type_refers.Lts as lts
+use Rattle.exists.proofs.counts.sym_count.Reads as sym-count-reads
+use Rattle.exists.proofs.environment.declared_exists.Reads as declared-exists-reads
+use Rattle.exists.proofs.environment.fields_exist.Reads as fields-exist-reads
+use Rattle.view.proofs.environment.type_data_at.Reads as type-data-at-reads
+
+-- src/environment.rt:45:9
+type-data-at-requires : tie.Need-type-data-at-requires
+type-data-at-requires c κs = search needs
+
+-- src/environment.rt:47:33
+enum-told : tie.Need-enum-told
+enum-told c = search needs
+
+-- src/environment.rt:48:29
+enum-known-t : tie.Need-enum-known-t
+enum-known-t c = search needs
+
+-- src/environment.rt:48:39
+sym-count-requires : tie.Need-sym-count-requires
+sym-count-requires c κs = search needs
+
+-- src/environment.rt:49:24
+enum-known-t-2 : tie.Need-enum-known-t-2
+enum-known-t-2 c = search needs
+
+-- src/environment.rt:49:30
+declared-exists-requires : tie.Need-declared-exists-requires
+declared-exists-requires c κs = search needs
+
+-- src/environment.rt:50:26
+enum-known-t-3 : tie.Need-enum-known-t-3
+enum-known-t-3 c = search needs
+
+-- src/environment.rt:51:17
+declared-exists-requires-2 : tie.Need-declared-exists-requires-2
+declared-exists-requires-2 c κs = search needs
+
+-- src/environment.rt:52:17
+returns : tie.Need-returns
+unfolding type-refers
+returns c = λ plan. rw (← c .before .before .before .before .before .type-data-at .ensures, c .before .before .before .t3 .given .1, sym (c .before .declared-exists2 .ensures plan (c .before .before .before .before .before .before .before .before .before .args .words .now) (c .before .before .before .before .before .before .before .before .before .args .rows .now)) ∙ not-true _ (c .if1 .taken))
+
+-- src/environment.rt:54:13
+fields-exist-requires : tie.Need-fields-exist-requires
+fields-exist-requires c κs = search needs
+
+-- src/environment.rt:42:1
+returns-2 : tie.Need-returns-2
+unfolding type-refers
+returns-2 c = λ plan. rw (← c .before .before .type-data-at .ensures, c .enum-told .given .1)
+
+-- src/environment.rt:42:1
+returns-3 : tie.Need-returns-3
+unfolding type-refers
+returns-3 c = λ plan. rw (← c .before .before .before .before .type-data-at .ensures, c .before .before .t .given .1, ← c .sym-count .ensures plan (c .before .before .before .before .before .before .before .before .args .words .now) (c .before .before .before .before .before .before .before .before .args .rows .now)) refl
+
+-- src/environment.rt:42:1
+returns-4 : tie.Need-returns-4
+unfolding type-refers
+returns-4 c = λ plan. rw (← c .before .before .before .before .type-data-at .ensures, c .before .before .t2 .given .1) (c .declared-exists .ensures plan (c .before .before .before .before .before .before .before .before .args .words .now) (c .before .before .before .before .before .before .before .before .args .rows .now))
+
+-- src/environment.rt:42:1
+returns-5 : tie.Need-returns-5
+unfolding type-refers
+returns-5 c = λ plan. rw (← c .before .before .before .before .before .before .type-data-at .ensures, c .before .before .before .before .t3 .given .1, sym (c .before .before .declared-exists2 .ensures plan (c .before .before .before .before .before .before .before .before .before .before .args .words .now) (c .before .before .before .before .before .before .before .before .before .before .args .rows .now)) ∙ not-false _ (c .before .if1 .left)) (c .fields-exist .ensures plan)
+
+pub type-refers-spec : {M : Type 1} → statement M
+type-refers-spec =
+    tie.close
+    (tie.spec
+    type-data-at-requires
+    enum-told
+    enum-known-t
+    sym-count-requires
+    enum-known-t-2
+    declared-exists-requires
+    enum-known-t-3
+    declared-exists-requires-2
+    returns
+    fields-exist-requires
+    returns-2
+    returns-3
+    returns-4
+    returns-5)

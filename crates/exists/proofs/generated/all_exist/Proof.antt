@@ -1,0 +1,72 @@
+use Prim.Native.Nat.{ℕ, suc, _+_, _-_, _*_, _≤_, _<_}
+use mathlib.Core.Path.{_≡_, refl, sym, ap, _∙_}
+use mathlib.Core.Bool.{Bool, true, false, _&&_}
+use mathlib.Core.List.{List, [], map}
+use native.Mathlib.Omega.{arith}
+use borrow.Author.Tests.{eq-eqb, ne-eqb, lt-ltb, le-ltb, not-true, not-false}
+use lib.Dec.{ltb, eqb}
+use lib.ListN.{length, getD, drop}
+use Rattle.plan.specs.Lookup.{field-count, fields-of, variant-at}
+use Rattle.plan.specs.Refusal.{every, type-refers, variant-refers, term-refers, binding-refers, constraint-refers, control-flow-refers, row-refers, generated-refers, all-exist, source-count, pattern-count, lengths-fit, judged}
+use Rattle.rows.specs.View.{nth, type-of, variant-of, term-of, binding-of, block-of}
+use Rattle.layout.specs.View.{cut, cuts}
+use Rattle.view.specs.Tables.{table-rows, environment-in, generated-at, generated-from, plan-in}
+use Rattle.view.specs.Told.{control-flow-of, constraint-of, control-flow-told, constraint-told}
+use Rattle.view.proofs.Plans.{syms-count, poss-count, types-count, terms-count, term-is, generated-is}
+use Rattle.checks.proofs.Every.{rows-start, rows-true, rows-false, rows-end, generated-true, generated-false, generated-end}
+use Rattle.exists.specs.Ready.{Ready, row-exists, row-fits}
+use Rattle.exists.proofs.Sorts.{sort-builtin, sort-past, sort-prim, sort-enum, sort-struct, variants-found, fields-builtin, fields-past, fields-at, count-at, count-start, count-other, count-same, count-later, count-end, fields-none, fields-found}
+use Rattle.exists.proofs.Rows.{step-refers, arm-refers, step-length, arm-length, generated-tests, exist-tests, lengths-right, lengths-at, lengths-plan}
+use Rattle.exists.proofs.Judged.{few-types, few-variants, arguments-are-few}
+use borrow.Author.Needs.{needs}
+use Rattle.exists.proofs.generated.all_exist.Statement.{statement}
+use Rattle.exists.proofs.generated.all_exist.Tie as tie
+use Rattle.exists.proofs.generated.all_exist.Reads as reads
+use Rattle.exists.proofs.generated.all_exist.Lts as lts
+use Rattle.exists.proofs.environment.table_exists.Reads as table-exists-reads
+use Rattle.exists.proofs.generated.all_refer.Reads as all-refer-reads
+
+-- src/generated.rt:171:9
+table-exists-requires : tie.Need-table-exists-requires
+table-exists-requires c κs = search needs
+
+-- src/generated.rt:172:9
+returns : tie.Need-returns
+returns c = λ plan. sym (sym (exist-tests plan (c .before .before .before .before .before .before .before .args .words .now) (c .before .before .before .before .before .before .before .args .rows .now) (c .before .before .before .before .before .before .before .args .tables .now)) ∙ rw (sym (c .before .table-exists .ensures plan) ∙ not-true _ (c .if1 .taken)))
+
+-- src/generated.rt:174:9
+table-exists-requires-2 : tie.Need-table-exists-requires-2
+table-exists-requires-2 c κs = search needs
+
+-- src/generated.rt:175:9
+returns-2 : tie.Need-returns-2
+returns-2 c = λ plan. sym (sym (exist-tests plan (c .before .before .before .before .before .before .before .before .before .args .words .now) (c .before .before .before .before .before .before .before .before .before .args .rows .now) (c .before .before .before .before .before .before .before .before .before .args .tables .now)) ∙ rw (sym (c .before .before .before .table-exists .ensures plan) ∙ not-false _ (c .before .before .if1 .left), sym (c .before .table-exists2 .ensures plan) ∙ not-true _ (c .if2 .taken)))
+
+-- src/generated.rt:177:9
+table-exists-requires-3 : tie.Need-table-exists-requires-3
+table-exists-requires-3 c κs = search needs
+
+-- src/generated.rt:178:9
+returns-3 : tie.Need-returns-3
+returns-3 c = λ plan. sym (sym (exist-tests plan (c .before .before .before .before .before .before .before .before .before .before .before .args .words .now) (c .before .before .before .before .before .before .before .before .before .before .before .args .rows .now) (c .before .before .before .before .before .before .before .before .before .before .before .args .tables .now)) ∙ rw (sym (c .before .before .before .before .before .table-exists .ensures plan) ∙ not-false _ (c .before .before .before .before .if1 .left), sym (c .before .before .before .table-exists2 .ensures plan) ∙ not-false _ (c .before .before .if2 .left), sym (c .before .table-exists3 .ensures plan) ∙ not-true _ (c .if3 .taken)))
+
+-- src/generated.rt:180:5
+all-refer-requires : tie.Need-all-refer-requires
+all-refer-requires c κs = search needs
+
+-- src/generated.rt:167:1
+returns-4 : tie.Need-returns-4
+returns-4 c = λ plan. c .all-refer .ensures plan ∙ sym (sym (exist-tests plan (c .before .before .before .before .before .before .before .before .before .before .before .before .args .words .now) (c .before .before .before .before .before .before .before .before .before .before .before .before .args .rows .now) (c .before .before .before .before .before .before .before .before .before .before .before .before .args .tables .now)) ∙ rw (sym (c .before .before .before .before .before .before .table-exists .ensures plan) ∙ not-false _ (c .before .before .before .before .before .if1 .left), sym (c .before .before .before .before .table-exists2 .ensures plan) ∙ not-false _ (c .before .before .before .if2 .left), sym (c .before .before .table-exists3 .ensures plan) ∙ not-false _ (c .before .if3 .left)))
+
+pub all-exist-spec : {M : Type 1} → statement M
+all-exist-spec =
+    tie.close
+    (tie.spec
+    table-exists-requires
+    returns
+    table-exists-requires-2
+    returns-2
+    table-exists-requires-3
+    returns-3
+    all-refer-requires
+    returns-4)

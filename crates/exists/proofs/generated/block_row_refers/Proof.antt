@@ -1,0 +1,92 @@
+use Prim.Native.Nat.{ℕ, suc, _+_, _-_, _*_, _≤_, _<_}
+use mathlib.Core.Path.{_≡_, refl, sym, ap, _∙_}
+use mathlib.Core.Bool.{Bool, true, false, _&&_}
+use mathlib.Core.List.{List, [], map}
+use native.Mathlib.Omega.{arith}
+use borrow.Author.Tests.{eq-eqb, ne-eqb, lt-ltb, le-ltb, not-true, not-false}
+use lib.Dec.{ltb, eqb}
+use lib.ListN.{length, getD, drop}
+use Rattle.plan.specs.Lookup.{field-count, fields-of, variant-at}
+use Rattle.plan.specs.Refusal.{every, type-refers, variant-refers, term-refers, binding-refers, constraint-refers, control-flow-refers, row-refers, generated-refers, all-exist, source-count, pattern-count, lengths-fit, judged}
+use Rattle.rows.specs.View.{nth, type-of, variant-of, term-of, binding-of, block-of}
+use Rattle.layout.specs.View.{cut, cuts}
+use Rattle.view.specs.Tables.{table-rows, environment-in, generated-at, generated-from, plan-in}
+use Rattle.view.specs.Told.{control-flow-of, constraint-of, control-flow-told, constraint-told}
+use Rattle.view.proofs.Plans.{syms-count, poss-count, types-count, terms-count, term-is, generated-is}
+use Rattle.checks.proofs.Every.{rows-start, rows-true, rows-false, rows-end, generated-true, generated-false, generated-end}
+use Rattle.exists.specs.Ready.{Ready, row-exists, row-fits}
+use Rattle.exists.proofs.Sorts.{sort-builtin, sort-past, sort-prim, sort-enum, sort-struct, variants-found, fields-builtin, fields-past, fields-at, count-at, count-start, count-other, count-same, count-later, count-end, fields-none, fields-found}
+use Rattle.exists.proofs.Rows.{step-refers, arm-refers, step-length, arm-length, generated-tests, exist-tests, lengths-right, lengths-at, lengths-plan}
+use Rattle.exists.proofs.Judged.{few-types, few-variants, arguments-are-few}
+use borrow.Author.Needs.{needs}
+use Rattle.exists.proofs.generated.block_row_refers.Statement.{statement}
+use Rattle.exists.proofs.generated.block_row_refers.Tie as tie
+use Rattle.exists.proofs.generated.block_row_refers.Reads as reads
+use Rattle.exists.proofs.generated.block_row_refers.Lts as lts
+use Rattle.checks.proofs.list.list_below.Reads as list-below-reads
+use Rattle.checks.proofs.list.patterns_below.Reads as patterns-below-reads
+use Rattle.exists.proofs.generated.constraint_refers.Reads as constraint-refers-reads
+use Rattle.exists.proofs.generated.control_flow_refers.Reads as control-flow-refers-reads
+use Rattle.view.proofs.block.constraint_at.Reads as constraint-at-reads
+use Rattle.view.proofs.block.control_flow_at.Reads as control-flow-at-reads
+use Rattle.view.proofs.block.is_step.Reads as is-step-reads
+
+-- src/generated.rt:92:8
+is-step-requires : tie.Need-is-step-requires
+is-step-requires c κs = search needs
+
+-- src/generated.rt:93:13
+control-flow-at-requires : tie.Need-control-flow-at-requires
+control-flow-at-requires c κs = search needs
+
+-- src/generated.rt:94:13
+control-flow-refers-requires : tie.Need-control-flow-refers-requires
+control-flow-refers-requires c κs = search needs
+
+-- src/generated.rt:95:13
+returns : tie.Need-returns
+returns c = λ plan. sym (sym (step-refers (environment-in plan (c .before .before .before .before .before .before .before .before .before .before .args .words .now) (c .before .before .before .before .before .before .before .before .before .before .args .rows .now) (c .before .before .before .before .before .before .before .before .before .before .args .tables .now)) (c .before .before .before .before .before .before .before .before .before .before .args .n) (cut (c .before .before .before .before .before .before .before .before .before .before .args .words .now) (c .before .before .before .before .before .before .before .before .before .before .args .rows .now) (c .before .before .before .before .before .before .before .before .before .before .args .r)) (sym (c .before .before .before .before .is-step .ensures) ∙ c .before .before .before .if1 .taken)) ∙ rw (← c .before .before .control-flow-at .ensures, sym (c .before .control-flow-refers .ensures plan (c .before .before .before .before .before .before .before .before .before .before .args .words .now) (c .before .before .before .before .before .before .before .before .before .before .args .rows .now)) ∙ not-true _ (c .if2 .taken)))
+
+-- src/generated.rt:97:9
+list-below-requires : tie.Need-list-below-requires
+list-below-requires c κs = search needs
+
+-- src/generated.rt:97:9
+returns-2 : tie.Need-returns-2
+returns-2 c = λ plan. c .list-below .ensures ∙ sym (sym (step-refers (environment-in plan (c .before .before .before .before .before .before .before .before .before .before .before .args .words .now) (c .before .before .before .before .before .before .before .before .before .before .before .args .rows .now) (c .before .before .before .before .before .before .before .before .before .before .before .args .tables .now)) (c .before .before .before .before .before .before .before .before .before .before .before .args .n) (cut (c .before .before .before .before .before .before .before .before .before .before .before .args .words .now) (c .before .before .before .before .before .before .before .before .before .before .before .args .rows .now) (c .before .before .before .before .before .before .before .before .before .before .before .args .r)) (sym (c .before .before .before .before .before .is-step .ensures) ∙ c .before .before .before .before .if1 .taken)) ∙ rw (← c .before .before .before .control-flow-at .ensures, sym (c .before .before .control-flow-refers .ensures plan (c .before .before .before .before .before .before .before .before .before .before .before .args .words .now) (c .before .before .before .before .before .before .before .before .before .before .before .args .rows .now)) ∙ not-false _ (c .before .if2 .left)))
+
+-- src/generated.rt:99:9
+constraint-at-requires : tie.Need-constraint-at-requires
+constraint-at-requires c κs = search needs
+
+-- src/generated.rt:100:9
+constraint-refers-requires : tie.Need-constraint-refers-requires
+constraint-refers-requires c κs = search needs
+
+-- src/generated.rt:101:9
+returns-3 : tie.Need-returns-3
+returns-3 c = λ plan. sym (sym (arm-refers (environment-in plan (c .before .before .before .before .before .before .before .before .before .before .args .words .now) (c .before .before .before .before .before .before .before .before .before .before .args .rows .now) (c .before .before .before .before .before .before .before .before .before .before .args .tables .now)) (c .before .before .before .before .before .before .before .before .before .before .args .n) (cut (c .before .before .before .before .before .before .before .before .before .before .args .words .now) (c .before .before .before .before .before .before .before .before .before .before .args .rows .now) (c .before .before .before .before .before .before .before .before .before .before .args .r)) (sym (c .before .before .before .before .is-step .ensures) ∙ c .before .before .before .if1 .left)) ∙ rw (← c .before .before .constraint-at .ensures, sym (c .before .constraint-refers .ensures plan) ∙ not-true _ (c .if3 .taken)))
+
+-- src/generated.rt:103:5
+patterns-below-requires : tie.Need-patterns-below-requires
+patterns-below-requires c κs = search needs
+
+-- src/generated.rt:88:1
+returns-4 : tie.Need-returns-4
+returns-4 c = λ plan. c .patterns-below .ensures ∙ sym (sym (arm-refers (environment-in plan (c .before .before .before .before .before .before .before .before .before .before .before .args .words .now) (c .before .before .before .before .before .before .before .before .before .before .before .args .rows .now) (c .before .before .before .before .before .before .before .before .before .before .before .args .tables .now)) (c .before .before .before .before .before .before .before .before .before .before .before .args .n) (cut (c .before .before .before .before .before .before .before .before .before .before .before .args .words .now) (c .before .before .before .before .before .before .before .before .before .before .before .args .rows .now) (c .before .before .before .before .before .before .before .before .before .before .before .args .r)) (sym (c .before .before .before .before .before .is-step .ensures) ∙ c .before .before .before .before .if1 .left)) ∙ rw (← c .before .before .before .constraint-at .ensures, sym (c .before .before .constraint-refers .ensures plan) ∙ not-false _ (c .before .if3 .left)))
+
+pub block-row-refers-spec : {M : Type 1} → statement M
+block-row-refers-spec =
+    tie.close
+    (tie.spec
+    is-step-requires
+    control-flow-at-requires
+    control-flow-refers-requires
+    returns
+    list-below-requires
+    returns-2
+    constraint-at-requires
+    constraint-refers-requires
+    returns-3
+    patterns-below-requires
+    returns-4)

@@ -1,0 +1,120 @@
+use Prim.Native.Nat.{ℕ, suc, _+_, _-_, _*_, _≤_, _<_}
+use mathlib.Core.Path.{_≡_, refl, sym, ap, _∙_}
+use mathlib.Core.Bool.{Bool, true, false, _&&_}
+use mathlib.Core.List.{List, [], map}
+use native.Mathlib.Omega.{arith}
+use borrow.Author.Tests.{eq-eqb, ne-eqb, lt-ltb, le-ltb, not-true, not-false}
+use lib.Dec.{ltb, eqb}
+use lib.ListN.{length, getD, drop}
+use Rattle.plan.specs.Lookup.{field-count, fields-of, variant-at}
+use Rattle.plan.specs.Refusal.{every, type-refers, variant-refers, term-refers, binding-refers, constraint-refers, control-flow-refers, row-refers, generated-refers, all-exist, source-count, pattern-count, lengths-fit, judged}
+use Rattle.rows.specs.View.{nth, type-of, variant-of, term-of, binding-of, block-of}
+use Rattle.layout.specs.View.{cut, cuts}
+use Rattle.view.specs.Tables.{table-rows, environment-in, generated-at, generated-from, plan-in}
+use Rattle.view.specs.Told.{control-flow-of, constraint-of, control-flow-told, constraint-told}
+use Rattle.view.proofs.Plans.{syms-count, poss-count, types-count, terms-count, term-is, generated-is}
+use Rattle.checks.proofs.Every.{rows-start, rows-true, rows-false, rows-end, generated-true, generated-false, generated-end}
+use Rattle.exists.specs.Ready.{Ready, row-exists, row-fits}
+use Rattle.exists.proofs.Sorts.{sort-builtin, sort-past, sort-prim, sort-enum, sort-struct, variants-found, fields-builtin, fields-past, fields-at, count-at, count-start, count-other, count-same, count-later, count-end, fields-none, fields-found}
+use Rattle.exists.proofs.Rows.{step-refers, arm-refers, step-length, arm-length, generated-tests, exist-tests, lengths-right, lengths-at, lengths-plan}
+use Rattle.exists.proofs.Judged.{few-types, few-variants, arguments-are-few}
+use borrow.Author.Needs.{needs}
+use Rattle.exists.proofs.generated.constraint_refers.Statement.{statement}
+use Rattle.exists.proofs.generated.constraint_refers.Tie as tie
+use Rattle.exists.proofs.generated.constraint_refers.Reads as reads
+use Rattle.exists.proofs.generated.constraint_refers.Lts as lts
+use Rattle.exists.proofs.counts.sym_count.Reads as sym-count-reads
+use Rattle.exists.proofs.counts.type_count.Reads as type-count-reads
+use Rattle.exists.proofs.counts.type_sort.Reads as type-sort-reads
+use Rattle.exists.proofs.counts.variant_exists.Reads as variant-exists-reads
+
+-- src/generated.rt:46:41
+enum-told : tie.Need-enum-told
+enum-told c = search needs
+
+-- src/generated.rt:47:32
+enum-known-c : tie.Need-enum-known-c
+enum-known-c c = search needs
+
+-- src/generated.rt:47:49
+type-count-requires : tie.Need-type-count-requires
+type-count-requires c κs = search needs
+
+-- src/generated.rt:48:33
+enum-known-c-2 : tie.Need-enum-known-c-2
+enum-known-c-2 c = search needs
+
+-- src/generated.rt:48:48
+sym-count-requires : tie.Need-sym-count-requires
+sym-count-requires c κs = search needs
+
+-- src/generated.rt:49:31
+enum-known-c-3 : tie.Need-enum-known-c-3
+enum-known-c-3 c = search needs
+
+-- src/generated.rt:49:48
+variant-exists-requires : tie.Need-variant-exists-requires
+variant-exists-requires c κs = search needs
+
+-- src/generated.rt:50:30
+enum-known-c-4 : tie.Need-enum-known-c-4
+enum-known-c-4 c = search needs
+
+-- src/generated.rt:50:38
+type-sort-requires : tie.Need-type-sort-requires
+type-sort-requires c κs = search needs
+
+-- src/generated.rt:51:29
+enum-told-2 : tie.Need-enum-told-2
+enum-told-2 c = search needs
+
+-- src/generated.rt:41:1
+returns : tie.Need-returns
+unfolding constraint-refers
+returns c = λ plan. rw (c .enum-told .given .1)
+
+-- src/generated.rt:41:1
+returns-2 : tie.Need-returns-2
+unfolding constraint-refers
+returns-2 c = λ plan. rw (c .before .before .c .given .1, ← c .type-count .ensures plan (c .before .before .before .before .before .before .before .before .before .args .words .now) (c .before .before .before .before .before .before .before .before .before .args .rows .now)) refl
+
+-- src/generated.rt:41:1
+returns-3 : tie.Need-returns-3
+unfolding constraint-refers
+returns-3 c = λ plan. rw (c .before .before .c2 .given .1, ← c .sym-count .ensures plan (c .before .before .before .before .before .before .before .before .before .args .words .now) (c .before .before .before .before .before .before .before .before .before .args .rows .now)) refl
+
+-- src/generated.rt:41:1
+returns-4 : tie.Need-returns-4
+unfolding constraint-refers
+returns-4 c = λ plan. rw (c .before .before .c3 .given .1) (c .variant-exists .ensures plan)
+
+-- src/generated.rt:41:1
+returns-5 : tie.Need-returns-5
+unfolding constraint-refers
+returns-5 c = λ plan. rw (c .before .before .c4 .given .1) (c .type-sort .ensures plan .1)
+
+-- src/generated.rt:41:1
+returns-6 : tie.Need-returns-6
+unfolding constraint-refers
+returns-6 c = λ plan. rw (c .enum-told2 .given .1)
+
+pub constraint-refers-spec : {M : Type 1} → statement M
+constraint-refers-spec =
+    tie.close
+    (tie.spec
+    enum-told
+    enum-known-c
+    type-count-requires
+    enum-known-c-2
+    sym-count-requires
+    enum-known-c-3
+    variant-exists-requires
+    enum-known-c-4
+    type-sort-requires
+    enum-told-2
+    returns
+    returns-2
+    returns-3
+    returns-4
+    returns-5
+    returns-6)

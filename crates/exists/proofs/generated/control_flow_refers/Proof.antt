@@ -1,0 +1,91 @@
+use Prim.Native.Nat.{ℕ, suc, _+_, _-_, _*_, _≤_, _<_}
+use mathlib.Core.Path.{_≡_, refl, sym, ap, _∙_}
+use mathlib.Core.Bool.{Bool, true, false, _&&_}
+use mathlib.Core.List.{List, [], map}
+use native.Mathlib.Omega.{arith}
+use borrow.Author.Tests.{eq-eqb, ne-eqb, lt-ltb, le-ltb, not-true, not-false}
+use lib.Dec.{ltb, eqb}
+use lib.ListN.{length, getD, drop}
+use Rattle.plan.specs.Lookup.{field-count, fields-of, variant-at}
+use Rattle.plan.specs.Refusal.{every, type-refers, variant-refers, term-refers, binding-refers, constraint-refers, control-flow-refers, row-refers, generated-refers, all-exist, source-count, pattern-count, lengths-fit, judged}
+use Rattle.rows.specs.View.{nth, type-of, variant-of, term-of, binding-of, block-of}
+use Rattle.layout.specs.View.{cut, cuts}
+use Rattle.view.specs.Tables.{table-rows, environment-in, generated-at, generated-from, plan-in}
+use Rattle.view.specs.Told.{control-flow-of, constraint-of, control-flow-told, constraint-told}
+use Rattle.view.proofs.Plans.{syms-count, poss-count, types-count, terms-count, term-is, generated-is}
+use Rattle.checks.proofs.Every.{rows-start, rows-true, rows-false, rows-end, generated-true, generated-false, generated-end}
+use Rattle.exists.specs.Ready.{Ready, row-exists, row-fits}
+use Rattle.exists.proofs.Sorts.{sort-builtin, sort-past, sort-prim, sort-enum, sort-struct, variants-found, fields-builtin, fields-past, fields-at, count-at, count-start, count-other, count-same, count-later, count-end, fields-none, fields-found}
+use Rattle.exists.proofs.Rows.{step-refers, arm-refers, step-length, arm-length, generated-tests, exist-tests, lengths-right, lengths-at, lengths-plan}
+use Rattle.exists.proofs.Judged.{few-types, few-variants, arguments-are-few}
+use borrow.Author.Needs.{needs}
+use Rattle.exists.proofs.generated.control_flow_refers.Statement.{statement}
+use Rattle.exists.proofs.generated.control_flow_refers.Tie as tie
+use Rattle.exists.proofs.generated.control_flow_refers.Reads as reads
+use Rattle.exists.proofs.generated.control_flow_refers.Lts as lts
+use Rattle.exists.proofs.counts.pos_count.Reads as pos-count-reads
+use Rattle.exists.proofs.generated.are_below.Reads as are-below-reads
+
+-- src/generated.rt:70:30
+enum-known-c : tie.Need-enum-known-c
+enum-known-c c = search needs
+
+-- src/generated.rt:71:30
+enum-known-c-2 : tie.Need-enum-known-c-2
+enum-known-c-2 c = search needs
+
+-- src/generated.rt:71:40
+are-below-requires : tie.Need-are-below-requires
+are-below-requires c κs = search needs
+
+-- src/generated.rt:72:29
+enum-known-c-3 : tie.Need-enum-known-c-3
+enum-known-c-3 c = search needs
+
+-- src/generated.rt:73:31
+enum-known-c-4 : tie.Need-enum-known-c-4
+enum-known-c-4 c = search needs
+
+-- src/generated.rt:73:74
+pos-count-requires : tie.Need-pos-count-requires
+pos-count-requires c κs = search needs
+
+-- src/generated.rt:73:48
+are-below-requires-2 : tie.Need-are-below-requires-2
+are-below-requires-2 c κs = search needs
+
+-- src/generated.rt:66:1
+returns : tie.Need-returns
+unfolding control-flow-refers
+returns c = λ plan ws rs. rw (c .before .c .given .1) refl
+
+-- src/generated.rt:66:1
+returns-2 : tie.Need-returns-2
+unfolding control-flow-refers
+returns-2 c = λ plan ws rs. rw (c .before .before .c2 .given .1) (c .are-below .ensures)
+
+-- src/generated.rt:66:1
+returns-3 : tie.Need-returns-3
+unfolding control-flow-refers
+returns-3 c = λ plan ws rs. rw (c .before .c3 .given .1) refl
+
+-- src/generated.rt:66:1
+returns-4 : tie.Need-returns-4
+unfolding control-flow-refers
+returns-4 c = λ plan ws rs. c .are-below2 .ensures ∙ rw (c .before .before .before .c4 .given .1, c .before .pos-count .ensures plan ws rs) refl
+
+pub control-flow-refers-spec : {M : Type 1} → statement M
+control-flow-refers-spec =
+    tie.close
+    (tie.spec
+    enum-known-c
+    enum-known-c-2
+    are-below-requires
+    enum-known-c-3
+    enum-known-c-4
+    pos-count-requires
+    are-below-requires-2
+    returns
+    returns-2
+    returns-3
+    returns-4)

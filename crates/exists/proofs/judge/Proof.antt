@@ -1,0 +1,157 @@
+use Prim.Native.Nat.{ℕ, suc, _+_, _-_, _*_, _≤_, _<_}
+use mathlib.Core.Path.{_≡_, refl, sym, ap, _∙_}
+use mathlib.Core.Bool.{Bool, true, false, _&&_}
+use mathlib.Core.List.{List, [], map}
+use native.Mathlib.Omega.{arith}
+use borrow.Author.Tests.{eq-eqb, ne-eqb, lt-ltb, le-ltb, not-true, not-false}
+use lib.Dec.{ltb, eqb}
+use lib.ListN.{length, getD, drop}
+use Rattle.plan.specs.Lookup.{field-count, fields-of, variant-at}
+use Rattle.plan.specs.Refusal.{every, type-refers, variant-refers, term-refers, binding-refers, constraint-refers, control-flow-refers, row-refers, generated-refers, all-exist, source-count, pattern-count, lengths-fit, judged}
+use Rattle.rows.specs.View.{nth, type-of, variant-of, term-of, binding-of, block-of}
+use Rattle.layout.specs.View.{cut, cuts}
+use Rattle.view.specs.Tables.{table-rows, environment-in, generated-at, generated-from, plan-in}
+use Rattle.view.specs.Told.{control-flow-of, constraint-of, control-flow-told, constraint-told}
+use Rattle.view.proofs.Plans.{syms-count, poss-count, types-count, terms-count, term-is, generated-is}
+use Rattle.checks.proofs.Every.{rows-start, rows-true, rows-false, rows-end, generated-true, generated-false, generated-end}
+use Rattle.exists.specs.Ready.{Ready, row-exists, row-fits}
+use Rattle.exists.proofs.Sorts.{sort-builtin, sort-past, sort-prim, sort-enum, sort-struct, variants-found, fields-builtin, fields-past, fields-at, count-at, count-start, count-other, count-same, count-later, count-end, fields-none, fields-found}
+use Rattle.exists.proofs.Rows.{step-refers, arm-refers, step-length, arm-length, generated-tests, exist-tests, lengths-right, lengths-at, lengths-plan}
+use Rattle.exists.proofs.Judged.{few-types, few-variants, arguments-are-few}
+use lib.ListN.{length-replicate}
+use borrow.Author.Needs.{needs}
+use Rattle.exists.proofs.judge.Statement.{statement}
+use Rattle.exists.proofs.judge.Tie as tie
+use Rattle.exists.proofs.judge.Reads as reads
+use Rattle.exists.proofs.judge.Lts as lts
+use Rattle.checks.proofs.arms.matches_have_arms.Reads as matches-have-arms-reads
+use Rattle.checks.proofs.loops.loops_iterate.Reads as loops-iterate-reads
+use Rattle.checks.proofs.lower.sources_lower.Reads as sources-lower-reads
+use Rattle.checks.proofs.most.within_most.Reads as within-most-reads
+use Rattle.checks.proofs.returns.returns_fit.Reads as returns-fit-reads
+use Rattle.exists.proofs.generated.all_exist.Reads as all-exist-reads
+use Rattle.exists.proofs.lengths.lengths_fit.Reads as lengths-fit-reads
+use Rattle.variants.proofs.index_variants.Reads as index-variants-reads
+
+-- src/lib.rt:16:9
+within-most-requires : tie.Need-within-most-requires
+within-most-requires c κs = search needs
+
+-- src/lib.rt:17:9
+returns : tie.Need-returns
+unfolding judged
+returns c = λ plan. rw (sym (c .before .within-most .ensures plan) ∙ not-true _ (c .if1 .taken))
+
+-- src/lib.rt:21:51
+slice-aggregate-index-variants : tie.Need-slice-aggregate-index-variants
+slice-aggregate-index-variants c = search needs
+
+-- src/lib.rt:21:63
+slice-aggregate-index-variants-2 : tie.Need-slice-aggregate-index-variants-2
+slice-aggregate-index-variants-2 c = search needs
+
+-- src/lib.rt:21:5
+index-variants-requires : tie.Need-index-variants-requires
+index-variants-requires c κs = (few-variants [] (c .before .before .before .before .before .before .before .args .words .now) (c .before .before .before .before .before .before .before .args .rows .now) (c .before .before .before .before .before .before .before .args .tables .now) (sym (c .before .before .before .within-most .ensures []) ∙ not-false _ (c .before .before .if1 .left)), omega (arith, length-replicate {A = ℕ} 1024 0), omega (arith, length-replicate {A = ℕ} 257 0))
+
+-- src/lib.rt:22:51
+slice-aggregate-all-exist : tie.Need-slice-aggregate-all-exist
+slice-aggregate-all-exist c = search needs
+
+-- src/lib.rt:22:59
+slice-aggregate-all-exist-2 : tie.Need-slice-aggregate-all-exist-2
+slice-aggregate-all-exist-2 c = search needs
+
+-- src/lib.rt:22:9
+all-exist-requires : tie.Need-all-exist-requires
+all-exist-requires c κs = record { few = few-types [] (c .before .before .before .before .before .before .before .before .before .before .before .before .args .words .now) (c .before .before .before .before .before .before .before .before .before .before .before .before .args .rows .now) (c .before .before .before .before .before .before .before .before .before .before .before .before .args .tables .now) (sym (c .before .before .before .before .before .before .before .before .within-most .ensures []) ∙ not-false _ (c .before .before .before .before .before .before .before .if1 .left)); index = c .before .before .before .before .index-variants .ensures }
+
+-- src/lib.rt:23:9
+returns-2 : tie.Need-returns-2
+unfolding judged
+returns-2 c = λ plan. rw (sym (c .before .before .before .before .before .before .before .before .before .before .within-most .ensures plan) ∙ not-false _ (c .before .before .before .before .before .before .before .before .before .if1 .left), sym (c .before .all-exist .ensures plan) ∙ not-true _ (c .if2 .taken))
+
+-- src/lib.rt:25:51
+slice-aggregate-lengths-fit : tie.Need-slice-aggregate-lengths-fit
+slice-aggregate-lengths-fit c = search needs
+
+-- src/lib.rt:25:59
+slice-aggregate-lengths-fit-2 : tie.Need-slice-aggregate-lengths-fit-2
+slice-aggregate-lengths-fit-2 c = search needs
+
+-- src/lib.rt:25:9
+lengths-fit-requires : tie.Need-lengths-fit-requires
+lengths-fit-requires c κs = record { few = few-types [] (c .before .before .before .before .before .before .before .before .before .before .before .before .before .before .before .before .args .words .now) (c .before .before .before .before .before .before .before .before .before .before .before .before .before .before .before .before .args .rows .now) (c .before .before .before .before .before .before .before .before .before .before .before .before .before .before .before .before .args .tables .now) (sym (c .before .before .before .before .before .before .before .before .before .before .before .before .within-most .ensures []) ∙ not-false _ (c .before .before .before .before .before .before .before .before .before .before .before .if1 .left)); index = c .before .before .before .before .before .before .before .before .index-variants .ensures }
+
+-- src/lib.rt:26:9
+returns-3 : tie.Need-returns-3
+unfolding judged
+returns-3 c = λ plan. rw (sym (c .before .before .before .before .before .before .before .before .before .before .before .before .before .before .within-most .ensures plan) ∙ not-false _ (c .before .before .before .before .before .before .before .before .before .before .before .before .before .if1 .left), sym (c .before .before .before .before .before .all-exist .ensures plan) ∙ not-false _ (c .before .before .before .before .if2 .left), sym (c .before .lengths-fit .ensures plan) ∙ not-true _ (c .if3 .taken))
+
+-- src/lib.rt:28:9
+sources-lower-requires : tie.Need-sources-lower-requires
+sources-lower-requires c κs = search needs
+
+-- src/lib.rt:29:9
+returns-4 : tie.Need-returns-4
+unfolding judged
+returns-4 c = λ plan. rw (sym (c .before .before .before .before .before .before .before .before .before .before .before .before .before .before .before .before .within-most .ensures plan) ∙ not-false _ (c .before .before .before .before .before .before .before .before .before .before .before .before .before .before .before .if1 .left), sym (c .before .before .before .before .before .before .before .all-exist .ensures plan) ∙ not-false _ (c .before .before .before .before .before .before .if2 .left), sym (c .before .before .before .lengths-fit .ensures plan) ∙ not-false _ (c .before .before .if3 .left), sym (c .before .sources-lower .ensures plan (arguments-are-few (plan-in plan (c .before .before .before .before .before .before .before .before .before .before .before .before .before .before .before .before .before .before .before .before .args .words .now) (c .before .before .before .before .before .before .before .before .before .before .before .before .before .before .before .before .before .before .before .before .args .rows .now) (c .before .before .before .before .before .before .before .before .before .before .before .before .before .before .before .before .before .before .before .before .args .tables .now)) (sym (c .before .before .before .before .before .before .before .before .before .before .before .before .before .before .before .before .within-most .ensures plan) ∙ not-false _ (c .before .before .before .before .before .before .before .before .before .before .before .before .before .before .before .if1 .left)) (sym (c .before .before .before .before .before .before .before .all-exist .ensures plan) ∙ not-false _ (c .before .before .before .before .before .before .if2 .left)))) ∙ not-true _ (c .if4 .taken))
+
+-- src/lib.rt:31:9
+returns-fit-requires : tie.Need-returns-fit-requires
+returns-fit-requires c κs = search needs
+
+-- src/lib.rt:32:9
+returns-5 : tie.Need-returns-5
+unfolding judged
+returns-5 c = λ plan. rw (sym (c .before .before .before .before .before .before .before .before .before .before .before .before .before .before .before .before .before .before .within-most .ensures plan) ∙ not-false _ (c .before .before .before .before .before .before .before .before .before .before .before .before .before .before .before .before .before .if1 .left), sym (c .before .before .before .before .before .before .before .before .before .all-exist .ensures plan) ∙ not-false _ (c .before .before .before .before .before .before .before .before .if2 .left), sym (c .before .before .before .before .before .lengths-fit .ensures plan) ∙ not-false _ (c .before .before .before .before .if3 .left), sym (c .before .before .before .sources-lower .ensures plan (arguments-are-few (plan-in plan (c .before .before .before .before .before .before .before .before .before .before .before .before .before .before .before .before .before .before .before .before .before .before .args .words .now) (c .before .before .before .before .before .before .before .before .before .before .before .before .before .before .before .before .before .before .before .before .before .before .args .rows .now) (c .before .before .before .before .before .before .before .before .before .before .before .before .before .before .before .before .before .before .before .before .before .before .args .tables .now)) (sym (c .before .before .before .before .before .before .before .before .before .before .before .before .before .before .before .before .before .before .within-most .ensures plan) ∙ not-false _ (c .before .before .before .before .before .before .before .before .before .before .before .before .before .before .before .before .before .if1 .left)) (sym (c .before .before .before .before .before .before .before .before .before .all-exist .ensures plan) ∙ not-false _ (c .before .before .before .before .before .before .before .before .if2 .left)))) ∙ not-false _ (c .before .before .if4 .left), sym (c .before .returns-fit .ensures plan) ∙ not-true _ (c .if5 .taken))
+
+-- src/lib.rt:34:9
+matches-have-arms-requires : tie.Need-matches-have-arms-requires
+matches-have-arms-requires c κs = search needs
+
+-- src/lib.rt:35:9
+returns-6 : tie.Need-returns-6
+unfolding judged
+returns-6 c = λ plan. rw (sym (c .before .before .before .before .before .before .before .before .before .before .before .before .before .before .before .before .before .before .before .before .within-most .ensures plan) ∙ not-false _ (c .before .before .before .before .before .before .before .before .before .before .before .before .before .before .before .before .before .before .before .if1 .left), sym (c .before .before .before .before .before .before .before .before .before .before .before .all-exist .ensures plan) ∙ not-false _ (c .before .before .before .before .before .before .before .before .before .before .if2 .left), sym (c .before .before .before .before .before .before .before .lengths-fit .ensures plan) ∙ not-false _ (c .before .before .before .before .before .before .if3 .left), sym (c .before .before .before .before .before .sources-lower .ensures plan (arguments-are-few (plan-in plan (c .before .before .before .before .before .before .before .before .before .before .before .before .before .before .before .before .before .before .before .before .before .before .before .before .args .words .now) (c .before .before .before .before .before .before .before .before .before .before .before .before .before .before .before .before .before .before .before .before .before .before .before .before .args .rows .now) (c .before .before .before .before .before .before .before .before .before .before .before .before .before .before .before .before .before .before .before .before .before .before .before .before .args .tables .now)) (sym (c .before .before .before .before .before .before .before .before .before .before .before .before .before .before .before .before .before .before .before .before .within-most .ensures plan) ∙ not-false _ (c .before .before .before .before .before .before .before .before .before .before .before .before .before .before .before .before .before .before .before .if1 .left)) (sym (c .before .before .before .before .before .before .before .before .before .before .before .all-exist .ensures plan) ∙ not-false _ (c .before .before .before .before .before .before .before .before .before .before .if2 .left)))) ∙ not-false _ (c .before .before .before .before .if4 .left), sym (c .before .before .before .returns-fit .ensures plan) ∙ not-false _ (c .before .before .if5 .left), sym (c .before .matches-have-arms .ensures plan) ∙ not-true _ (c .if6 .taken))
+
+-- src/lib.rt:37:9
+loops-iterate-requires : tie.Need-loops-iterate-requires
+loops-iterate-requires c κs = search needs
+
+-- src/lib.rt:38:9
+returns-7 : tie.Need-returns-7
+unfolding judged
+returns-7 c = λ plan. rw (sym (c .before .before .before .before .before .before .before .before .before .before .before .before .before .before .before .before .before .before .before .before .before .before .within-most .ensures plan) ∙ not-false _ (c .before .before .before .before .before .before .before .before .before .before .before .before .before .before .before .before .before .before .before .before .before .if1 .left), sym (c .before .before .before .before .before .before .before .before .before .before .before .before .before .all-exist .ensures plan) ∙ not-false _ (c .before .before .before .before .before .before .before .before .before .before .before .before .if2 .left), sym (c .before .before .before .before .before .before .before .before .before .lengths-fit .ensures plan) ∙ not-false _ (c .before .before .before .before .before .before .before .before .if3 .left), sym (c .before .before .before .before .before .before .before .sources-lower .ensures plan (arguments-are-few (plan-in plan (c .before .before .before .before .before .before .before .before .before .before .before .before .before .before .before .before .before .before .before .before .before .before .before .before .before .before .args .words .now) (c .before .before .before .before .before .before .before .before .before .before .before .before .before .before .before .before .before .before .before .before .before .before .before .before .before .before .args .rows .now) (c .before .before .before .before .before .before .before .before .before .before .before .before .before .before .before .before .before .before .before .before .before .before .before .before .before .before .args .tables .now)) (sym (c .before .before .before .before .before .before .before .before .before .before .before .before .before .before .before .before .before .before .before .before .before .before .within-most .ensures plan) ∙ not-false _ (c .before .before .before .before .before .before .before .before .before .before .before .before .before .before .before .before .before .before .before .before .before .if1 .left)) (sym (c .before .before .before .before .before .before .before .before .before .before .before .before .before .all-exist .ensures plan) ∙ not-false _ (c .before .before .before .before .before .before .before .before .before .before .before .before .if2 .left)))) ∙ not-false _ (c .before .before .before .before .before .before .if4 .left), sym (c .before .before .before .before .before .returns-fit .ensures plan) ∙ not-false _ (c .before .before .before .before .if5 .left), sym (c .before .before .before .matches-have-arms .ensures plan) ∙ not-false _ (c .before .before .if6 .left), sym (c .before .loops-iterate .ensures plan) ∙ not-true _ (c .if7 .taken))
+
+-- src/lib.rt:13:1
+returns-8 : tie.Need-returns-8
+unfolding judged
+returns-8 c = λ plan. rw (sym (c .before .before .before .before .before .before .before .before .before .before .before .before .before .before .before .before .before .before .before .before .before .before .within-most .ensures plan) ∙ not-false _ (c .before .before .before .before .before .before .before .before .before .before .before .before .before .before .before .before .before .before .before .before .before .if1 .left), sym (c .before .before .before .before .before .before .before .before .before .before .before .before .before .all-exist .ensures plan) ∙ not-false _ (c .before .before .before .before .before .before .before .before .before .before .before .before .if2 .left), sym (c .before .before .before .before .before .before .before .before .before .lengths-fit .ensures plan) ∙ not-false _ (c .before .before .before .before .before .before .before .before .if3 .left), sym (c .before .before .before .before .before .before .before .sources-lower .ensures plan (arguments-are-few (plan-in plan (c .before .before .before .before .before .before .before .before .before .before .before .before .before .before .before .before .before .before .before .before .before .before .before .before .before .before .args .words .now) (c .before .before .before .before .before .before .before .before .before .before .before .before .before .before .before .before .before .before .before .before .before .before .before .before .before .before .args .rows .now) (c .before .before .before .before .before .before .before .before .before .before .before .before .before .before .before .before .before .before .before .before .before .before .before .before .before .before .args .tables .now)) (sym (c .before .before .before .before .before .before .before .before .before .before .before .before .before .before .before .before .before .before .before .before .before .before .within-most .ensures plan) ∙ not-false _ (c .before .before .before .before .before .before .before .before .before .before .before .before .before .before .before .before .before .before .before .before .before .if1 .left)) (sym (c .before .before .before .before .before .before .before .before .before .before .before .before .before .all-exist .ensures plan) ∙ not-false _ (c .before .before .before .before .before .before .before .before .before .before .before .before .if2 .left)))) ∙ not-false _ (c .before .before .before .before .before .before .if4 .left), sym (c .before .before .before .before .before .returns-fit .ensures plan) ∙ not-false _ (c .before .before .before .before .if5 .left), sym (c .before .before .before .matches-have-arms .ensures plan) ∙ not-false _ (c .before .before .if6 .left), sym (c .before .loops-iterate .ensures plan) ∙ not-false _ (c .if7 .left))
+
+pub judge-spec : {M : Type 1} → statement M
+judge-spec =
+    tie.close
+    (tie.spec
+    within-most-requires
+    returns
+    slice-aggregate-index-variants
+    slice-aggregate-index-variants-2
+    index-variants-requires
+    slice-aggregate-all-exist
+    slice-aggregate-all-exist-2
+    all-exist-requires
+    returns-2
+    slice-aggregate-lengths-fit
+    slice-aggregate-lengths-fit-2
+    lengths-fit-requires
+    returns-3
+    sources-lower-requires
+    returns-4
+    returns-fit-requires
+    returns-5
+    matches-have-arms-requires
+    returns-6
+    loops-iterate-requires
+    returns-7
+    returns-8)

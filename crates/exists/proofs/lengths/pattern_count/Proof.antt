@@ -1,0 +1,108 @@
+use Prim.Native.Nat.{ℕ, suc, _+_, _-_, _*_, _≤_, _<_}
+use mathlib.Core.Path.{_≡_, refl, sym, ap, _∙_}
+use mathlib.Core.Bool.{Bool, true, false, _&&_}
+use mathlib.Core.List.{List, [], map}
+use native.Mathlib.Omega.{arith}
+use borrow.Author.Tests.{eq-eqb, ne-eqb, lt-ltb, le-ltb, not-true, not-false}
+use lib.Dec.{ltb, eqb}
+use lib.ListN.{length, getD, drop}
+use Rattle.plan.specs.Lookup.{field-count, fields-of, variant-at}
+use Rattle.plan.specs.Refusal.{every, type-refers, variant-refers, term-refers, binding-refers, constraint-refers, control-flow-refers, row-refers, generated-refers, all-exist, source-count, pattern-count, lengths-fit, judged}
+use Rattle.rows.specs.View.{nth, type-of, variant-of, term-of, binding-of, block-of}
+use Rattle.layout.specs.View.{cut, cuts}
+use Rattle.view.specs.Tables.{table-rows, environment-in, generated-at, generated-from, plan-in}
+use Rattle.view.specs.Told.{control-flow-of, constraint-of, control-flow-told, constraint-told}
+use Rattle.view.proofs.Plans.{syms-count, poss-count, types-count, terms-count, term-is, generated-is}
+use Rattle.checks.proofs.Every.{rows-start, rows-true, rows-false, rows-end, generated-true, generated-false, generated-end}
+use Rattle.exists.specs.Ready.{Ready, row-exists, row-fits}
+use Rattle.exists.proofs.Sorts.{sort-builtin, sort-past, sort-prim, sort-enum, sort-struct, variants-found, fields-builtin, fields-past, fields-at, count-at, count-start, count-other, count-same, count-later, count-end, fields-none, fields-found}
+use Rattle.exists.proofs.Rows.{step-refers, arm-refers, step-length, arm-length, generated-tests, exist-tests, lengths-right, lengths-at, lengths-plan}
+use Rattle.exists.proofs.Judged.{few-types, few-variants, arguments-are-few}
+use borrow.Author.Needs.{needs}
+use Rattle.exists.proofs.lengths.pattern_count.Statement.{statement}
+use Rattle.exists.proofs.lengths.pattern_count.Tie as tie
+use Rattle.exists.proofs.lengths.pattern_count.Reads as reads
+use Rattle.exists.proofs.lengths.pattern_count.Lts as lts
+use Rattle.exists.proofs.lengths.struct_fields.Reads as struct-fields-reads
+use Rattle.exists.proofs.lengths.variant_fields.Reads as variant-fields-reads
+
+-- src/lengths.rt:94:41
+enum-told : tie.Need-enum-told
+enum-told c = search needs
+
+-- src/lengths.rt:95:40
+enum-told-2 : tie.Need-enum-told-2
+enum-told-2 c = search needs
+
+-- src/lengths.rt:96:41
+enum-told-3 : tie.Need-enum-told-3
+enum-told-3 c = search needs
+
+-- src/lengths.rt:97:31
+enum-known-c : tie.Need-enum-known-c
+enum-known-c c = search needs
+
+-- src/lengths.rt:97:48
+variant-fields-requires : tie.Need-variant-fields-requires
+variant-fields-requires c κs = search needs
+
+-- src/lengths.rt:98:30
+enum-known-c-2 : tie.Need-enum-known-c-2
+enum-known-c-2 c = search needs
+
+-- src/lengths.rt:98:38
+struct-fields-requires : tie.Need-struct-fields-requires
+struct-fields-requires c κs = search needs
+
+-- src/lengths.rt:99:29
+enum-told-4 : tie.Need-enum-told-4
+enum-told-4 c = search needs
+
+-- src/lengths.rt:89:1
+returns : tie.Need-returns
+unfolding pattern-count
+returns c = λ plan. rw (c .enum-told .given .1)
+
+-- src/lengths.rt:89:1
+returns-2 : tie.Need-returns-2
+unfolding pattern-count
+returns-2 c = λ plan. rw (c .enum-told2 .given .1)
+
+-- src/lengths.rt:89:1
+returns-3 : tie.Need-returns-3
+unfolding pattern-count
+returns-3 c = λ plan. rw (c .enum-told3 .given .1)
+
+-- src/lengths.rt:89:1
+returns-4 : tie.Need-returns-4
+unfolding pattern-count
+returns-4 c = λ plan. rw (c .before .before .c .given .1) (c .variant-fields .ensures plan)
+
+-- src/lengths.rt:89:1
+returns-5 : tie.Need-returns-5
+unfolding pattern-count
+returns-5 c = λ plan. rw (c .before .before .c2 .given .1) (c .struct-fields .ensures plan)
+
+-- src/lengths.rt:89:1
+returns-6 : tie.Need-returns-6
+unfolding pattern-count
+returns-6 c = λ plan. rw (c .enum-told4 .given .1)
+
+pub pattern-count-spec : {M : Type 1} → statement M
+pattern-count-spec =
+    tie.close
+    (tie.spec
+    enum-told
+    enum-told-2
+    enum-told-3
+    enum-known-c
+    variant-fields-requires
+    enum-known-c-2
+    struct-fields-requires
+    enum-told-4
+    returns
+    returns-2
+    returns-3
+    returns-4
+    returns-5
+    returns-6)

@@ -1,0 +1,61 @@
+-- The refusals 4 to 10 come after 1 to 3. Assumes nothing.
+use Prim.Native.Nat.{ℕ, _+_, _*_, _≤_, _<_}
+use mathlib.Core.Path.{_≡_, refl, sym, ap, _∙_}
+use mathlib.Core.Bool.{Bool, true, false, cond}
+use mathlib.Core.List.{List}
+use mathlib.Core.Option.{Option, some, none}
+use native.Mathlib.Omega.{arith}
+use lib.ListN.{length, take}
+use borrow.Author.Tests.{leb-true}
+use Rattle.plan.specs.Plan.{Plan}
+use Rattle.plan.specs.Layout.{read}
+use Rattle.plan.specs.Refusal.{fits-length, bytes-allowed, Outcome, refused, accepted, judged, laid-out, outcome, number-of, refusal}
+use Rattle.reader.specs.Reading.{of-layout, reading, Holding, Says}
+use Rattle.reader.specs.declared.Laid.{Laid}
+use Rattle.reader.specs.declared.Laid.the-variants.{Refused, Held}
+use Rattle.view.specs.Tables.{plan-in}
+use Rattle.view.proofs.Held.{plan-is}
+
+-- the outcome goes on from the reader's
+abbrev judged-of : Outcome → ℕ
+judged-of (refused n) = n
+judged-of (accepted p) = number-of (judged p)
+
+goes-on : (s : List ℕ) → judged-of (reading s) ≡ refusal s
+unfolding reading refusal outcome
+goes-on s = by-tests (fits-length s) (bytes-allowed s) (read s) where
+  by-tests : (a b : Bool) (p : Option Plan) → judged-of (cond a (cond b (of-layout p) (refused 2)) (refused 1)) ≡ number-of (cond a (cond b (laid-out p) (refused 2)) (refused 1))
+  by-tests true true none = refl
+  by-tests true true (some p) = refl
+  by-tests true false p = refl
+  by-tests false b p = refl
+
+module _ (s words rows tables : List ℕ) where
+  pub refused-early : (n : ℕ) → Says (reading s) s (Refused n) words rows tables → n ≡ refusal s
+  unfolding Says
+  refused-early n h = by-outcome (reading s) h ∙ goes-on s where
+    by-outcome : (o : Outcome) → Says o s (Refused n) words rows tables → n ≡ judged-of o
+    by-outcome (refused m) h = h
+    by-outcome (accepted p) h = absurd h
+
+  pub few-tables : (n j : ℕ) → Says (reading s) s (Held n j) words rows tables → 4 * j ≤ length s
+  unfolding Says
+  few-tables n j h = by-outcome (reading s) h where
+    by-outcome : (o : Outcome) → Says o s (Held n j) words rows tables → 4 * j ≤ length s
+    by-outcome (refused m) h = absurd h
+    by-outcome (accepted p) h = h .few-tables
+
+  pub judged-late : (n j r : ℕ) → Says (reading s) s (Held n j) words rows tables → j < length tables
+      → r ≡ number-of (judged (plan-in s words rows (take (j + 1) tables))) → r ≡ refusal s
+  unfolding Says
+  judged-late n j r h l q = q ∙ by-outcome (reading s) h ∙ goes-on s where
+    by-outcome : (o : Outcome) → Says o s (Held n j) words rows tables → number-of (judged (plan-in s words rows (take (j + 1) tables))) ≡ judged-of o
+    by-outcome (refused m) h = absurd h
+    by-outcome (accepted p) h = ap (λ (p : Plan). number-of (judged p)) (sym (plan-is words rows tables n j (h .index) l s) ∙ h .is)
+
+pub read-short : (s : List ℕ) (n j : ℕ) (words rows tables : List ℕ) → Says (reading s) s (Held n j) words rows tables → length s ≤ 65536
+unfolding Says reading fits-length
+read-short s n j words rows tables h = by-tests (fits-length s) refl (bytes-allowed s) (read s) h where
+  by-tests : (a : Bool) → fits-length s ≡ a → (b : Bool) (p : Option Plan) → Says (cond a (cond b (of-layout p) (refused 2)) (refused 1)) s (Held n j) words rows tables → length s ≤ 65536
+  by-tests true q b p h = leb-true (length s) 65536 q
+  by-tests false q b p h = absurd h

@@ -1,0 +1,4 @@
+pub mod Laws
+pub mod Made
+pub mod Plans
+pub mod Held
