@@ -6,14 +6,16 @@ use mathlib.Core.List.{List}
 use mathlib.Core.Option.{Option, some, none}
 use native.Mathlib.Omega.{arith}
 use lib.ListN.{length, take}
-use borrow.Author.Tests.{leb-true}
+use lib.Dec.{eqb}
+use borrow.Author.Tests.{leb-true, ne-eqb}
 use Rattle.plan.specs.Plan.{Plan}
 use Rattle.plan.specs.Layout.{read}
-use Rattle.plan.specs.Refusal.{fits-length, bytes-allowed, Outcome, refused, accepted, judged, laid-out, outcome, number-of, refusal}
+use Rattle.plan.specs.Refusal.{fits-length, bytes-allowed, Outcome, refused, accepted, judged, laid-out, outcome, number-of, refusal, within-most, all-exist, lengths-fit, sources-lower, returns-fit, matches-have-arms, loops-iterate}
 use Rattle.reader.specs.Reading.{of-layout, reading, Holding, Says}
 use Rattle.reader.specs.declared.Laid.{Laid}
 use Rattle.reader.specs.declared.Laid.the-variants.{Refused, Held}
 use Rattle.view.specs.Tables.{plan-in}
+use Rattle.refusals.specs.Answered.{answered}
 use Rattle.view.proofs.Held.{plan-is}
 
 -- the outcome goes on from the reader's
@@ -59,3 +61,65 @@ read-short s n j words rows tables h = by-tests (fits-length s) refl (bytes-allo
   by-tests : (a : Bool) → fits-length s ≡ a → (b : Bool) (p : Option Plan) → Says (cond a (cond b (of-layout p) (refused 2)) (refused 1)) s (Held n j) words rows tables → length s ≤ 65536
   by-tests true q b p h = leb-true (length s) 65536 q
   by-tests false q b p h = absurd h
+
+-- what the checks 4 to 10 make of a plan
+data Result (p : Plan) : Outcome → Type 0 where
+  passes : Result p (accepted p)
+  turned : (n : ℕ) → 1 ≤ n → Result p (refused n)
+
+either : {p : Plan} (b : Bool) {x y : Outcome} → Result p x → Result p y → Result p (cond b x y)
+either true h g = h
+either false h g = g
+
+result : (p : Plan) → Result p (judged p)
+unfolding judged
+result p =
+    either (within-most p)
+    (either (all-exist p)
+    (either (lengths-fit p)
+    (either (sources-lower p)
+    (either (returns-fit p)
+    (either (matches-have-arms p)
+    (either (loops-iterate p) passes (turned 10 (omega arith)))
+    (turned 9 (omega arith)))
+    (turned 8 (omega arith)))
+    (turned 7 (omega arith)))
+    (turned 6 (omega arith)))
+    (turned 5 (omega arith)))
+    (turned 4 (omega arith))
+
+abbrev go-on : Outcome → Outcome
+go-on (refused n) = refused n
+go-on (accepted p) = judged p
+
+outcome-is : (s : List ℕ) → go-on (reading s) ≡ outcome s
+unfolding reading outcome
+outcome-is s = by-tests (fits-length s) (bytes-allowed s) (read s) where
+  by-tests : (a b : Bool) (p : Option Plan) → go-on (cond a (cond b (of-layout p) (refused 2)) (refused 1)) ≡ cond a (cond b (laid-out p) (refused 2)) (refused 1)
+  by-tests true true none = refl
+  by-tests true true (some p) = refl
+  by-tests true false p = refl
+  by-tests false b p = refl
+
+module _ (s words rows tables : List ℕ) where
+  pub says-early : (n : ℕ) → Says (reading s) s (Refused n) words rows tables → Says (outcome s) s (Refused n) words rows tables
+  unfolding Says
+  says-early n h = rw (sym (outcome-is s)) (by-outcome (reading s) h) where
+    by-outcome : (o : Outcome) → Says o s (Refused n) words rows tables → Says (go-on o) s (Refused n) words rows tables
+    by-outcome (refused m) h = h
+    by-outcome (accepted p) h = absurd h
+
+  by-result : {p : Plan} {o : Outcome} (n j : ℕ) → Result p o → Holding p s words rows tables n j → Says o s (answered (number-of o) n j) words rows tables
+  unfolding Says answered
+  by-result n j passes h = h
+  by-result n j (turned k g) h = rw (ne-eqb k 0 (λ q. absurd (omega arith))) refl
+
+  pub says-late : (n j r : ℕ) → Says (reading s) s (Held n j) words rows tables → j < length tables
+      → r ≡ number-of (judged (plan-in s words rows (take (j + 1) tables))) → Says (outcome s) s (answered r n j) words rows tables
+  unfolding Says
+  says-late n j r h l q = rw (sym (outcome-is s)) (by-outcome (reading s) h) where
+    by-outcome : (o : Outcome) → Says o s (Held n j) words rows tables → Says (go-on o) s (answered r n j) words rows tables
+    by-outcome (refused m) h = absurd h
+    by-outcome (accepted p) h =
+        let e : r ≡ number-of (judged p) = q ∙ ap (λ (p : Plan). number-of (judged p)) (sym (plan-is words rows tables n j (h .index) l s) ∙ h .is) in
+        rw e (by-result n j (result p) h)
