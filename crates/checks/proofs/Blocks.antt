@@ -1,18 +1,17 @@
 -- The kinds and levels of block rows, by their words; refusals 8, 9 and 10 row by row. Assumes nothing.
 use Prim.Native.Nat.{ℕ, zero, suc, _+_, _-_, _≤_, _<_}
-use mathlib.Core.Path.{_≡_, refl, sym, ap, _∙_}
+use mathlib.Core.Path.{_≡_, refl, sym, ap}
 use mathlib.Core.Bool.{Bool, true, false, cond, not, _&&_, _||_}
-use mathlib.Core.List.{List, [], _∷_, map}
+use mathlib.Core.List.{List, [], map}
 use native.Mathlib.Omega.{arith}
 use lib.Dec.{eqb, ltb}
-use lib.ListN.{length, drop, getD, List·getD-map}
-use borrow.Author.Tests.{lt-ltb, le-ltb, eq-eqb, ne-eqb}
+use lib.ListN.{drop, getD, List·getD-map}
+use borrow.Author.Tests.{le-ltb, eq-eqb, ne-eqb}
 use Rattle.plan.specs.Binding.{BindingRow}
-use Rattle.plan.specs.Row.{ControlFlow, Match, Equal, Loop, Return, Row, step, arm, level}
+use Rattle.plan.specs.Row.{ControlFlow, Row, step, arm, level}
 use Rattle.plan.specs.Plan.{Generated}
-use Rattle.plan.specs.Lookup.{binding-at, term-at}
-use Rattle.plan.specs.Refusal.{every, is-match, is-loop, is-return, is-iterator, loop-fits, loops-iterate, has-below, matches-armed, matches-have-arms, ends-block, returns-last, returns-fit}
-use Rattle.values.specs.Value.{Wide}
+use Rattle.plan.specs.Lookup.{binding-at}
+use Rattle.plan.specs.Refusal.{every, is-match, is-loop, is-return, loop-fits, loops-iterate, has-below, matches-armed, matches-have-arms, ends-block, returns-last, returns-fit}
 use Rattle.rows.specs.View.{nth, wide-at, patterns-in, term-of, binding-of, binding-made, block-of, step-made, arm-made}
 use Rattle.layout.specs.View.{cut, cuts}
 use Rattle.view.specs.Tables.{table-rows, plan-in, generated-at, generated-from}

@@ -1,20 +1,18 @@
 -- Refusal 4, from counts. Assumes nothing.
-use Prim.Native.Nat.{ℕ, zero, suc, _+_, _-_, _/_, _≤_, _<_}
-use mathlib.Core.Path.{_≡_, refl, sym, ap, _∙_}
+use Prim.Native.Nat.{ℕ, suc, _+_, _-_, _/_}
+use mathlib.Core.Path.{_≡_, refl, ap, _∙_}
 use mathlib.Core.Bool.{Bool, true, false, cond, _&&_}
-use mathlib.Core.List.{List, [], _∷_, _++_, map}
-use native.Mathlib.Omega.{arith}
-use lib.Dec.{eqb, leb, ltb}
-use lib.ListN.{length, drop, getD, length-map}
-use borrow.Author.Tests.{le-leb, lt-leb}
+use mathlib.Core.List.{List, [], _∷_, map}
+use lib.Dec.{leb, ltb}
+use lib.ListN.{length, drop, length-map}
 use Rattle.literal.specs.BuiltinType.{all}
-use Rattle.plan.specs.Plan.{Fields, unit, named, tuple, TypeData, Environment, Generated, Plan}
+use Rattle.plan.specs.Plan.{Fields, unit, named, tuple}
 use Rattle.plan.specs.Layout.{builtins}
 use Rattle.plan.specs.Lookup.{fields-of, field-count}
-use Rattle.plan.specs.Row.{Row, step, arm, level}
+use Rattle.plan.specs.Row.{step, arm}
 use Rattle.plan.specs.Refusal.{every, at-most, list-most, fields-most, row-most, environment-most, generated-most, within-most}
 use Rattle.rows.specs.View.{nth, type-of, variant-of, term-of, patterns-in, binding-of, block-of, step-made, arm-made, wide-at}
-use Rattle.view.specs.Tables.{table-rows, environment-in, generated-at, generated-from, plan-in}
+use Rattle.view.specs.Tables.{table-rows, environment-in, generated-at, plan-in}
 use Rattle.view.proofs.Plans.{generated-is, environment-is, generated-length, files-count, syms-count, poss-count, types-count, variants-count, terms-count, types-are, variants-are, terms-are}
 use Rattle.checks.specs.Within.{list-within}
 use Rattle.checks.proofs.Every.{every-map, every-append}

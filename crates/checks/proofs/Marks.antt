@@ -1,7 +1,7 @@
 -- Refusal 7 row by row: sources below their binding, and arguments that are marked as they are met. Assumes nothing.
-use Prim.Native.Nat.{ℕ, zero, suc, _+_, _-_, _≤_, _<_}
-use mathlib.Core.Path.{_≡_, refl, sym, ap, _∙_}
-use mathlib.Core.Bool.{Bool, true, false, cond, not, _&&_}
+use Prim.Native.Nat.{ℕ, _+_, _-_, _≤_, _<_}
+use mathlib.Core.Path.{_≡_, refl, sym}
+use mathlib.Core.Bool.{Bool, true, false, not, _&&_}
 use mathlib.Core.List.{List, [], _∷_, map}
 use mathlib.Core.Option.{Option, some, none}
 use native.Mathlib.Omega.{arith}
@@ -9,14 +9,14 @@ use native.Mathlib.Numerals.{add-one}
 use lib.Dec.{eqb, ltb}
 use lib.ListN.{length, drop, getD, set, replicate, List·getD-eq-default, getD-replicate}
 use lib.Seq.{getD-set-same, getD-set-other, set-out}
-use borrow.Author.Tests.{eq-eqb, ne-eqb, eqb-true, eqb-false, ltb-true, ltb-false}
+use borrow.Author.Tests.{eqb-true, eqb-false, ltb-true, ltb-false}
 use Rattle.plan.specs.Binding.{BindingRow}
 use Rattle.plan.specs.Plan.{Generated}
 use Rattle.plan.specs.Lookup.{argument-index}
 use Rattle.plan.specs.Refusal.{every, bound-below, differ, sources-below, arguments-distinct, sources-lower}
-use Rattle.rows.specs.View.{nth, binding-of}
+use Rattle.rows.specs.View.{binding-of}
 use Rattle.layout.specs.View.{cut, cuts}
-use Rattle.view.specs.Tables.{table-rows, plan-in, generated-at, generated-from}
+use Rattle.view.specs.Tables.{plan-in, generated-at, generated-from}
 use Rattle.view.proofs.Laws.{cuts-next, cuts-none}
 use Rattle.view.proofs.Plans.{generated-is, generated-next}
 use Rattle.checks.specs.Within.{argument-mark, few-arguments, arguments-few}

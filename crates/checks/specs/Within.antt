@@ -1,12 +1,11 @@
 -- Refusals 4 and 7 of one row, from its words. Assumes nothing: these are definitions.
 use Prim.Native.Nat.{ℕ}
-use mathlib.Core.Bool.{Bool, true, cond, _&&_}
+use mathlib.Core.Bool.{Bool, cond}
 use mathlib.Core.List.{List}
 use mathlib.Core.Option.{Option, some, none}
 use Rattle.plan.specs.Binding.{BindingRow}
 use Rattle.plan.specs.Plan.{Plan}
-use lib.Dec.{eqb, leb}
-use lib.ListN.{length, drop}
+use lib.Dec.{eqb}
 use Rattle.plan.specs.Lookup.{fields-of, argument-index}
 use Rattle.plan.specs.Refusal.{every, bound-below, at-most, list-most, fields-most, row-most}
 use Rattle.rows.specs.View.{type-of, variant-of, term-of, binding-of, block-of}

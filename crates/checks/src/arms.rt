@@ -1,6 +1,6 @@
 // Refusal 9: a `match` without arms.
 ghost use mathlib.Core.Path.{_≡_};
-ghost use mathlib.Core.Bool.{not, _&&_, _||_};
+ghost use mathlib.Core.Bool.{not, _||_};
 ghost use mathlib.Core.List.{List, map};
 ghost use Prim.Native.Nat.{ℕ, _+_, _-_};
 ghost use Rattle.plan.specs.Row.{level};

@@ -1,7 +1,7 @@
 // Tests of each number of a row's list, which stands after `header` words.
 ghost use mathlib.Core.Path.{_≡_};
 ghost use mathlib.Core.Bool.{_&&_};
-ghost use Prim.Native.Nat.{ℕ, _+_, _<_};
+ghost use Prim.Native.Nat.{_+_, _<_};
 ghost use lib.Dec.{ltb};
 ghost use lib.ListN.{drop};
 ghost use Rattle.plan.specs.Refusal.{every, bound-below};

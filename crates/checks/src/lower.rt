@@ -6,10 +6,9 @@ ghost use mathlib.Core.List.{List, map};
 ghost use Prim.Native.Nat.{ℕ, _+_};
 ghost use lib.ListN.{getD, set};
 ghost use Rattle.plan.specs.Lookup.{argument-index};
-ghost use Rattle.plan.specs.Refusal.{every, sources-below, arguments-distinct, sources-lower};
+ghost use Rattle.plan.specs.Refusal.{sources-below, arguments-distinct, sources-lower};
 ghost use Rattle.rows.specs.View.{binding-of};
-ghost use Rattle.layout.specs.View.{cut};
-ghost use Rattle.view.specs.Tables.{table-rows, generated-at, plan-in};
+ghost use Rattle.view.specs.Tables.{table-rows, plan-in};
 ghost use Rattle.view.specs.Told.{binding-told};
 ghost use Rattle.checks.specs.Within.{argument-mark, few-arguments, arguments-few};
 

@@ -1,6 +1,5 @@
 // Refusal 4: a table, level or list over its most.
 ghost use mathlib.Core.Path.{_≡_};
-ghost use mathlib.Core.Bool.{_&&_};
 ghost use mathlib.Core.List.{List};
 ghost use Prim.Native.Nat.{ℕ, _+_};
 ghost use Rattle.plan.specs.Refusal.{every, environment-most, generated-most, within-most};

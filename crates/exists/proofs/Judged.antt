@@ -1,19 +1,18 @@
 -- What refusals 4 and 5 leave for the later ones. Assumes nothing.
-use Prim.Native.Nat.{ℕ, zero, suc, _+_, _-_, _≤_, _<_}
-use mathlib.Core.Path.{_≡_, refl, sym, ap, _∙_}
-use mathlib.Core.Bool.{Bool, true, false, cond, _&&_}
-use mathlib.Core.List.{List, [], _∷_, map}
-use mathlib.Core.Option.{Option, some, none}
+use Prim.Native.Nat.{ℕ, zero, suc, _-_, _≤_, _<_}
+use mathlib.Core.Path.{_≡_, refl}
+use mathlib.Core.Bool.{Bool, true, false, _&&_}
+use mathlib.Core.List.{List, [], _∷_}
 use native.Mathlib.Omega.{arith}
-use lib.Dec.{eqb, ltb, leb}
+use lib.Dec.{ltb}
 use lib.ListN.{length, getD}
 use borrow.Author.Tests.{lt-ltb, ltb-true, leb-true}
-use Rattle.plan.specs.Plan.{Environment, Term, Generated, Plan, absent}
-use Rattle.plan.specs.Binding.{Binding, BindingRow, ConstBool, ConstInt, ConstPrim, Argument, Extractor, Constructor, Iterator, MakeVariant, MakeStruct, MakeSome, MatchSome, MatchTuple, MatchVariant, ExtractStruct}
+use Rattle.plan.specs.Plan.{Environment, Generated, Plan}
+use Rattle.plan.specs.Binding.{Binding, ConstBool, ConstInt, ConstPrim, Argument, Extractor, Constructor, Iterator, MakeVariant, MakeStruct, MakeSome, MatchSome, MatchTuple, MatchVariant, ExtractStruct}
 use Rattle.plan.specs.Lookup.{fields-of, term-at, argument-index}
-use Rattle.plan.specs.Refusal.{every, at-most, list-most, fields-most, bound-below, environment-most, within-most, is-present, constructor-exists, binding-refers, row-refers, generated-refers, type-refers, variant-refers, term-refers, all-exist}
+use Rattle.plan.specs.Refusal.{every, at-most, list-most, fields-most, bound-below, environment-most, within-most, binding-refers, generated-refers, type-refers, variant-refers, term-refers, all-exist}
 use Rattle.checks.specs.Within.{few-arguments, arguments-few}
-use Rattle.view.specs.Tables.{table-rows, environment-in, plan-in}
+use Rattle.view.specs.Tables.{environment-in, plan-in}
 use Rattle.view.proofs.Laws.{table-length}
 use Rattle.view.proofs.Plans.{environment-is, types-count, variants-count}
 

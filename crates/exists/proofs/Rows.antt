@@ -1,19 +1,15 @@
 -- Refusals 5 and 6 from rows to generated terms. Assumes nothing.
-use Prim.Native.Nat.{ℕ, zero, suc, _+_, _-_, _≤_, _<_}
-use mathlib.Core.Path.{_≡_, refl, sym, ap, _∙_}
-use mathlib.Core.Bool.{Bool, true, false, cond, _&&_}
-use mathlib.Core.List.{List, [], _∷_, _++_, map}
-use native.Mathlib.Omega.{arith}
+use Prim.Native.Nat.{ℕ, suc, _+_}
+use mathlib.Core.Path.{_≡_, refl, ap, _∙_}
+use mathlib.Core.Bool.{Bool, true, false, _&&_}
+use mathlib.Core.List.{List, [], _∷_, map}
 use lib.Dec.{eqb, ltb}
 use lib.ListN.{length, getD, drop, length-map}
 use Rattle.literal.specs.BuiltinType.{all}
-use Rattle.plan.specs.Plan.{Environment, TypeData, Builtin, Generated, Plan}
+use Rattle.plan.specs.Plan.{Environment, Generated}
 use Rattle.plan.specs.Layout.{builtins}
-use Rattle.plan.specs.Lookup.{term-at}
-use Rattle.plan.specs.Constraint.{Constraint}
-use Rattle.plan.specs.Row.{ControlFlow, Row, step, arm}
 use Rattle.plan.specs.Refusal.{every, bound-below, type-refers, variant-refers, term-refers, constructor-exists, binding-refers, constraint-refers, control-flow-refers, row-refers, generated-refers, all-exist, source-count, pattern-count, arm-length-fits, lengths-fit}
-use Rattle.rows.specs.View.{nth, wide-at, type-of, variant-of, term-of, patterns-in, binding-of, block-of, step-made, arm-made}
+use Rattle.rows.specs.View.{nth, type-of, variant-of, term-of, patterns-in, binding-of, block-of}
 use Rattle.view.specs.Tables.{table-rows, environment-in, generated-at, generated-from, plan-in}
 use Rattle.view.specs.Told.{control-flow-of, constraint-of}
 use Rattle.view.proofs.Plans.{generated-is, environment-is, types-are, variants-are, terms-are, term-is}

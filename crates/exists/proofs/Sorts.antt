@@ -1,22 +1,21 @@
 -- Which types exist, and their sorts and variants. Assumes nothing.
-use Prim.Native.Nat.{ℕ, zero, suc, _+_, _-_, _≤_, _<_}
+use Prim.Native.Nat.{ℕ, suc, _+_, _-_, _≤_, _<_}
 use mathlib.Core.Path.{_≡_, refl, sym, ap, _∙_}
-use mathlib.Core.Bool.{Bool, true, false, cond, _&&_}
-use mathlib.Core.List.{List, [], _∷_, map}
+use mathlib.Core.Bool.{Bool, true, false, _&&_}
+use mathlib.Core.List.{List, [], map}
 use native.Mathlib.Omega.{arith}
-use lib.Dec.{eqb, ltb}
+use lib.Dec.{ltb}
 use lib.ListN.{length, getD, List·getD-eq-default}
 use borrow.Author.Tests.{eq-eqb, ne-eqb, lt-ltb, le-ltb, ltb-true}
 use Rattle.literal.specs.declared.builtin_type.BuiltinType.the-variants as builtin
-use Rattle.plan.specs.Plan.{Environment, Builtin, Fields, unit, Variant}
+use Rattle.plan.specs.Plan.{Environment, Builtin, unit, Variant}
 use Rattle.plan.specs.Lookup.{type-at, variants-of, variant-at, fields-of, field-count}
-use Rattle.plan.specs.Refusal.{is-enum, is-struct, enum-exists, struct-exists}
+use Rattle.plan.specs.Refusal.{is-enum, enum-exists, struct-exists}
 use Rattle.rows.specs.View.{nth, type-of, variant-of}
 use Rattle.layout.specs.View.{cut, cuts}
 use Rattle.view.specs.Tables.{table-rows, environment-in}
 use Rattle.view.proofs.Laws.{table-length, cuts-next, cuts-none}
 use Rattle.view.proofs.Plans.{types-count, builtin-is, type-is, variants-are}
-use Rattle.variants.specs.Index.{variant-numbers, VariantIndex}
 use Rattle.variants.proofs.Variants.{numbers-count, number-at}
 use Rattle.exists.specs.Ready.{Ready}
 

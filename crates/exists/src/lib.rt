@@ -5,8 +5,8 @@ pub mod generated;
 pub mod lengths;
 
 ghost use mathlib.Core.Path.{_≡_};
-ghost use mathlib.Core.List.{List, []};
-ghost use Prim.Native.Nat.{ℕ, _-_};
+ghost use mathlib.Core.List.{List};
+ghost use Prim.Native.Nat.{ℕ};
 ghost use Rattle.plan.specs.Refusal.{number-of, judged};
 ghost use Rattle.view.specs.Tables.{plan-in};
 

@@ -1,11 +1,10 @@
 -- The tables by their number are those that the layout's indices cut, where these are in order. Assumes nothing.
 use Prim.Native.Nat.{ℕ, zero, suc, _+_, _-_, _≤_, _<_}
-use mathlib.Core.Path.{_≡_, refl, sym, ap, _∙_}
-use mathlib.Core.List.{List, [], _∷_}
+use mathlib.Core.Path.{_≡_, refl, ap, _∙_}
+use mathlib.Core.List.{List, _∷_}
 use native.Mathlib.Omega.{arith}
 use lib.ListN.{length, take, drop, getD}
 use lib.Seq.{getD-take, length-take-le}
-use Rattle.layout.specs.Scan.{Tables}
 use Rattle.layout.specs.View.{cut, cuts, tables-of, Indexed, plan-of-tables, plan-held}
 use Rattle.view.specs.Tables.{table-rows, tables-from, tables-in, plan-in}
 

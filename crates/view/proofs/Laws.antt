@@ -1,15 +1,16 @@
 -- Laws of the rows and tables that the buffers hold. Assumes nothing.
 use Prim.Native.Nat.{ℕ, zero, suc, _+_, _-_, _≤_, _<_, min}
 use mathlib.Core.Path.{_≡_, refl, sym, ap, _∙_}
+use mathlib.Core.Bool.{Bool, true, false}
 use mathlib.Core.List.{List, [], _∷_}
+use lib.Dec.{ltb}
+use borrow.Author.Tests.{ltb-true, ltb-false}
 use native.Mathlib.Omega.{arith}
-use native.Mathlib.Nat.{add-zero}
-use lib.ListN.{length, take, drop, getD, length-take, length-drop, List·getD-eq-default}
-use lib.Seq.{slice, getD-drop, getD-take}
+use lib.ListN.{length, take, drop, getD, length-take, length-drop, drop-of-length-le, List·getD-eq-default}
+use lib.Seq.{slice, take-all, take-nil, getD-drop, getD-take}
 use Rattle.rows.specs.View.{nth}
-use Rattle.layout.specs.Scan.{Tables}
-use Rattle.layout.specs.View.{cut, cuts}
-use Rattle.view.specs.Tables.{table-rows, tables-from, tables-in}
+use Rattle.layout.specs.View.{cut, cuts, text-of}
+use Rattle.view.specs.Tables.{table-rows, tables-from}
 
 -- past the end of an index
 pub past : (index : List ℕ) (i : ℕ) → length index ≤ i → 0 ≡ getD index i 0
@@ -77,3 +78,35 @@ module _ (words rows tables : List ℕ) where
   unfolding tables-from
   tables-length t zero = refl
   tables-length t (suc n) = ap suc (tables-length (t + 1) n)
+
+-- TEXTS
+
+take-min : (b : ℕ) (l : List ℕ) → take (min b (length l)) l ≡ take b l
+take-min b l = by-test (ltb b (length l)) refl where
+  by-test : (t : Bool) → ltb b (length l) ≡ t → take (min b (length l)) l ≡ take b l
+  by-test true h = let g = ltb-true b (length l) h in let z : min b (length l) ≡ b = omega arith in rw z
+  by-test false h =
+      let g = ltb-false b (length l) h in
+      let z : min b (length l) ≡ length l = omega arith in
+      rw z (take-all (length l) l (omega arith) ∙ sym (take-all b l g))
+
+-- a part of a slice
+part-slice : (a b : ℕ) (l : List ℕ) → a ≤ b → take (b - a) (drop a l) ≡ slice a b l
+part-slice zero b l h = let z : b - 0 ≡ b = omega arith in rw z
+part-slice (suc a) zero l h = absurd (omega arith)
+part-slice (suc a) (suc b) [] h = take-nil (suc b - suc a)
+part-slice (suc a) (suc b) (x ∷ l) h = let z : suc b - suc a ≡ b - a = omega arith in rw z (part-slice a b l (omega arith))
+
+module _ (plan ws : List ℕ) (from to : ℕ) (p : from ≡ nth ws 0) (q : to ≡ min (nth ws 1) (length plan)) where
+  text-slice : slice from to plan ≡ text-of plan ws
+  unfolding text-of
+  text-slice = rw (p, q, take-min (nth ws 1) plan) refl
+
+  pub text-is : from ≤ to → take (to - from) (drop from plan) ≡ text-of plan ws
+  text-is h = part-slice from to plan h ∙ text-slice
+
+  pub text-none : to < from → take (to - to) (drop to plan) ≡ text-of plan ws
+  text-none h =
+      let s : length (take to plan) ≤ from = rw length-take (omega arith) in
+      let g : length (take to plan) ≤ to = rw length-take (omega arith) in
+      part-slice to to plan (omega arith) ∙ drop-of-length-le (take to plan) g ∙ sym (drop-of-length-le (take to plan) s) ∙ text-slice

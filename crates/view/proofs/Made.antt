@@ -1,15 +1,15 @@
 -- What the kinds of rows make, past the last kind too. Assumes nothing.
-use Prim.Native.Nat.{ℕ, zero, suc, _+_, _-_, _*_, _/_, _≤_, _<_}
-use mathlib.Core.Path.{_≡_, refl, sym, ap, _∙_}
+use Prim.Native.Nat.{ℕ, zero, suc, _+_, _-_, _*_, _/_, _≤_}
+use mathlib.Core.Path.{_≡_, refl, ap}
 use mathlib.Core.List.{List, [], _∷_}
 use native.Mathlib.Omega.{arith}
-use lib.ListN.{length, getD, drop, List·getD-eq-default}
+use lib.ListN.{length, getD, List·getD-eq-default}
 use lib.Seq.{getD-drop}
 use Rattle.plan.specs.Binding as binding
 use Rattle.plan.specs.Constraint as constraint
 use Rattle.plan.specs.Row as row
 use Rattle.values.specs.Value.{Wide, value-of}
-use Rattle.rows.specs.View.{nth, wide-at, fields-in, binding-makers, binding-made, binding-of, step-makers, step-made, arm-makers, arm-made}
+use Rattle.rows.specs.View.{nth, wide-at, fields-in, binding-makers, binding-made, step-makers, step-made, arm-makers, arm-made}
 use Rattle.view.specs.Told.{whole}
 
 pub binding-past : (k a : ℕ) (b : Wide) → 14 ≤ k → binding-made k a b ≡ binding.Iterator

@@ -1,25 +1,24 @@
 -- The environment and the generated terms that the buffers hold. Assumes nothing.
-use Prim.Native.Nat.{ℕ, zero, suc, _+_, _-_, _/_, _≤_, _<_, min}
+use Prim.Native.Nat.{ℕ, zero, suc, _+_, _-_, _/_, _≤_, _<_}
 use mathlib.Core.Path.{_≡_, refl, sym, ap, _∙_}
-use mathlib.Core.Bool.{Bool, true, false, cond, _&&_}
+use mathlib.Core.Bool.{Bool, true, false}
 use mathlib.Core.List.{List, [], _∷_, _++_, map}
 use native.Mathlib.Omega.{arith}
-use native.Mathlib.Numerals.{add-one}
 use lib.Dec.{ltb}
-use lib.ListN.{length, take, drop, getD, length-map, length-append, List·getD-map, List·getD-append, List·getD-eq-default}
+use lib.ListN.{length, drop, getD, length-map, length-append, List·getD-map, List·getD-append, List·getD-eq-default}
 use lib.Seq.{getD-append-add}
-use borrow.Author.Tests.{lt-ltb, le-ltb, ltb-true, ltb-false}
+use borrow.Author.Tests.{ltb-true, ltb-false}
 use Rattle.literal.specs.BuiltinType.{all}
 use Rattle.literal.specs.declared.builtin_type.BuiltinType.{BuiltinType}
 use Rattle.literal.specs.declared.builtin_type.BuiltinType.the-variants as builtin
-use Rattle.plan.specs.Plan.{TypeData, Builtin, Variant, Term, Generated, Environment, Plan}
+use Rattle.plan.specs.Plan.{Builtin}
 use Rattle.plan.specs.Layout.{builtins}
 use Rattle.plan.specs.Lookup.{type-at, term-at}
-use Rattle.rows.specs.View.{nth, type-of, variant-of, term-of, function-of, shape-of, binding-of, block-of}
+use Rattle.rows.specs.View.{type-of, variant-of, term-of, function-of}
 use Rattle.layout.specs.Scan.{Tables}
-use Rattle.layout.specs.View.{cut, cuts, tables-of, text-of, environment-of, generated-of, plan-of-tables}
+use Rattle.layout.specs.View.{text-of, environment-of, generated-of, plan-of-tables}
 use Rattle.view.specs.Tables.{table-rows, tables-from, tables-in, environment-in, plan-in, generated-at, generated-from}
-use Rattle.view.proofs.Laws.{past, cuts-none, tables-at, tables-length, table-length}
+use Rattle.view.proofs.Laws.{past, cuts-none, tables-at, tables-length}
 
 module _ (words rows tables : List ℕ) where
   -- a table's rows, by its number; none past the last table

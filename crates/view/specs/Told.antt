@@ -1,6 +1,6 @@
 -- What the declared types say in the definition's terms. Assumes nothing: these are definitions.
 use Prim.Native.Nat.{ℕ, _+_, _-_, _*_}
-use mathlib.Core.List.{List, []}
+use mathlib.Core.List.{List}
 use Rattle.plan.specs.Plan as plan
 use Rattle.plan.specs.Binding as binding
 use Rattle.plan.specs.Constraint as constraint

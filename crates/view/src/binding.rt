@@ -1,8 +1,7 @@
 // Bindings: `Binding` of trie_again.rs 56, without the sources, which are the row's list.
 ghost use mathlib.Core.Path.{_≡_};
 ghost use Prim.Native.Nat.{_+_, _*_};
-ghost use Rattle.values.specs.Value.{Wide};
-ghost use Rattle.rows.specs.View.{flagged, binding-made, binding-of};
+ghost use Rattle.rows.specs.View.{binding-made, binding-of};
 ghost use Rattle.layout.specs.View.{cut};
 ghost use Rattle.view.specs.Told.{binding-told};
 

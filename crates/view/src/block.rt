@@ -1,8 +1,7 @@
 // The rows of a block: `ControlFlow` of serialize.rs 78, `Constraint` of trie_again.rs 171.
 ghost use mathlib.Core.Path.{_≡_};
-ghost use Prim.Native.Nat.{_+_, _-_};
+ghost use Prim.Native.Nat.{_-_};
 ghost use lib.Dec.{ltb};
-ghost use Rattle.values.specs.Value.{Wide};
 ghost use Rattle.rows.specs.View.{nth, step-made, arm-made};
 ghost use Rattle.layout.specs.View.{cut};
 ghost use Rattle.view.specs.Told.{constraint-told, constraint-of, control-flow-told, control-flow-of};

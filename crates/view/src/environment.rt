@@ -2,16 +2,15 @@
 use literal::builtin_type::BuiltinType;
 use literal::builtin_type::IntType;
 ghost use mathlib.Core.Path.{_≡_};
-ghost use Prim.Native.Nat.{ℕ, _+_, _-_};
-ghost use mathlib.Core.List.{List, []};
+ghost use Prim.Native.Nat.{ℕ, _-_};
+ghost use mathlib.Core.List.{List};
 ghost use lib.ListN.{getD, drop};
 ghost use Rattle.literal.specs.BuiltinType.{all};
 ghost use Rattle.literal.specs.declared.builtin_type.BuiltinType.the-variants as builtin;
-ghost use Rattle.plan.specs.Plan.{Fields};
 ghost use Rattle.plan.specs.Lookup.{fields-of, field-count};
-ghost use Rattle.rows.specs.View.{nth, flagged, function-of, shape-of, type-of, variant-of};
+ghost use Rattle.rows.specs.View.{nth, function-of, shape-of, type-of, variant-of};
 ghost use Rattle.layout.specs.View.{cut};
-ghost use Rattle.view.specs.Told.{function-told, fields-told, declared-told, type-told};
+ghost use Rattle.view.specs.Told.{function-told, fields-told, type-told};
 
 // A term's constructor or extractor.
 pub enum FunctionKind {

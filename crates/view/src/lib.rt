@@ -9,7 +9,7 @@ ghost use Prim.Native.Nat.{ℕ, _+_, _-_, _<_, min};
 ghost use mathlib.Core.List.{List, []};
 ghost use lib.ListN.{length, getD, drop};
 ghost use Rattle.rows.specs.View.{nth, flagged};
-ghost use Rattle.layout.specs.View.{cut};
+ghost use Rattle.layout.specs.View.{cut, text-of};
 ghost use Rattle.view.specs.Tables.{table-rows};
 
 // A number as an index.
@@ -93,6 +93,18 @@ pub fn list_len(words: &[u32], rows: &[u32], r: usize, header: usize) -> usize
         return 0;
     }
     n - header
+}
+
+// The text of row r, whose words are its start and its end in the plan.
+pub fn text_at<'a>(plan: &'a [u8], words: &[u32], rows: &[u32], r: usize) -> &'a [u8]
+    ensures { λ t. ⌜ now t ≡ text-of (now (plan .entry)) (cut (now (words .entry)) (now (rows .entry)) r) ⌝ }
+{
+    let from = word(words, rows, r, 0);
+    let to = lesser(word(words, rows, r, 1), plan.len());
+    if to < from {
+        return &plan[to..to];
+    }
+    &plan[from..to]
 }
 
 // How many rows table t has.

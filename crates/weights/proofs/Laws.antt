@@ -1,13 +1,13 @@
 -- Arms and weights, row by row. Assumes nothing.
-use Prim.Native.Nat.{ℕ, zero, suc, _+_, _-_, _≤_, _<_}
-use mathlib.Core.Path.{_≡_, refl, sym, ap, _∙_}
+use Prim.Native.Nat.{ℕ, suc, _+_, _-_, _≤_, _<_}
+use mathlib.Core.Path.{_≡_, refl}
 use mathlib.Core.Bool.{Bool, true, false, cond}
-use mathlib.Core.List.{List, [], _∷_, map}
+use mathlib.Core.List.{List, map}
 use native.Mathlib.Omega.{arith}
-use lib.Dec.{eqb, ltb, leb}
-use lib.ListN.{length, drop, getD}
+use lib.Dec.{ltb}
+use lib.ListN.{drop}
 use borrow.Author.Tests.{eq-eqb, ne-eqb, le-leb, lt-leb}
-use Rattle.plan.specs.Row.{Row, step, arm, level}
+use Rattle.plan.specs.Row.{step, arm, level}
 use Rattle.rows.specs.View.{nth, wide-at, patterns-in, block-of, step-made, arm-made}
 use Rattle.layout.specs.View.{cut, cuts}
 use Rattle.view.proofs.Laws.{cuts-next, cuts-none}

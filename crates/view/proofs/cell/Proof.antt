@@ -1,10 +1,5 @@
-use Prim.Native.Nat.{ℕ, _+_, _-_, _*_, _≤_, _<_}
-use mathlib.Core.Path.{_≡_, refl, sym, ap, _∙_}
 use native.Mathlib.Omega.{arith}
-use borrow.Author.Tests.{eq-eqb, ne-eqb, lt-ltb, le-ltb}
-use lib.ListN.{length, getD, drop}
-use Rattle.view.proofs.Laws.{past, row-length, cell-past, cell-at, table-length, table-at, table-past}
-use Rattle.view.proofs.Made.{binding-past, step-past, arm-past, halves, wide-words}
+use Rattle.view.proofs.Laws.{row-length, cell-past, cell-at}
 use borrow.Author.Needs.{needs}
 use Rattle.view.proofs.cell.Statement.{statement}
 use Rattle.view.proofs.cell.Tie as tie

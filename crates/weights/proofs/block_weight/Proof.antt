@@ -1,14 +1,13 @@
-use Prim.Native.Nat.{ℕ, suc, _+_, _-_, _≤_, _<_}
-use mathlib.Core.Path.{_≡_, refl, sym, ap, _∙_}
+use Prim.Native.Nat.{ℕ, _+_, _-_, _≤_}
+use mathlib.Core.Path.{_≡_, sym, ap, _∙_}
 use mathlib.Core.List.{map}
 use native.Mathlib.Omega.{arith}
 use borrow.Author.Needs.{needs}
 use borrow.Author.Tests.{not-true, not-false}
-use lib.ListN.{length}
 use Rattle.rows.specs.View.{block-of}
 use Rattle.layout.specs.View.{cuts}
-use Rattle.codegen.specs.Block.{arm-count, block-weight}
-use Rattle.weights.proofs.Laws.{arms-end, arms-out, arms-deeper, arms-one, weight-end, weight-out, weight-none, weight-one}
+use Rattle.codegen.specs.Block.{block-weight}
+use Rattle.weights.proofs.Laws.{weight-end, weight-out, weight-none, weight-one}
 use Rattle.weights.proofs.block_weight.Statement.{statement}
 use Rattle.weights.proofs.block_weight.Tie as tie
 use Rattle.weights.proofs.block_weight.Reads as reads

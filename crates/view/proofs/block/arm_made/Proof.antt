@@ -1,11 +1,8 @@
-use Prim.Native.Nat.{ℕ, _+_, _-_, _*_, _≤_, _<_}
-use mathlib.Core.Path.{_≡_, refl, sym, ap, _∙_}
+use Prim.Native.Nat.{_-_}
+use mathlib.Core.Path.{_≡_, sym, ap}
 use native.Mathlib.Omega.{arith}
-use borrow.Author.Tests.{eq-eqb, ne-eqb, lt-ltb, le-ltb}
-use lib.ListN.{length, getD, drop}
-use Rattle.view.proofs.Laws.{past, row-length, cell-past, cell-at, table-length, table-at, table-past}
-use Rattle.view.proofs.Made.{binding-past, step-past, arm-past, halves, wide-words}
-use Rattle.rows.specs.View.{binding-made, step-made, arm-made, function-of, shape-of, type-of, binding-of}
+use Rattle.view.proofs.Made.{arm-past, halves}
+use Rattle.rows.specs.View.{arm-made}
 use Rattle.plan.specs.Constraint as constraint
 use borrow.Author.Needs.{needs}
 use Rattle.view.proofs.block.arm_made.Statement.{statement}

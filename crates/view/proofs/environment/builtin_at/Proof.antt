@@ -1,14 +1,8 @@
-use Prim.Native.Nat.{ℕ, _+_, _-_, _*_, _≤_, _<_}
-use mathlib.Core.Path.{_≡_, refl, sym, ap, _∙_}
-use native.Mathlib.Omega.{arith}
-use borrow.Author.Tests.{eq-eqb, ne-eqb, lt-ltb, le-ltb}
-use lib.ListN.{length, getD, drop}
-use Rattle.view.proofs.Laws.{past, row-length, cell-past, cell-at, table-length, table-at, table-past}
-use Rattle.view.proofs.Made.{binding-past, step-past, arm-past, halves, wide-words, none-below}
+use mathlib.Core.Path.{sym}
+use Rattle.view.proofs.Made.{none-below}
 use Rattle.literal.specs.BuiltinType.{all}
 use lib.ListN.{List·getD-eq-default}
 use Rattle.literal.specs.declared.builtin_type.BuiltinType.the-variants as builtin
-use borrow.Author.Needs.{needs}
 use Rattle.view.proofs.environment.builtin_at.Statement.{statement}
 use Rattle.view.proofs.environment.builtin_at.Tie as tie
 use Rattle.view.proofs.environment.builtin_at.Reads as reads

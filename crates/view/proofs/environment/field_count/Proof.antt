@@ -1,12 +1,3 @@
-use Prim.Native.Nat.{ℕ, _+_, _-_, _*_, _≤_, _<_}
-use mathlib.Core.Path.{_≡_, refl, sym, ap, _∙_}
-use native.Mathlib.Omega.{arith}
-use borrow.Author.Tests.{eq-eqb, ne-eqb, lt-ltb, le-ltb}
-use lib.ListN.{length, getD, drop}
-use Rattle.view.proofs.Laws.{past, row-length, cell-past, cell-at, table-length, table-at, table-past}
-use Rattle.view.proofs.Made.{binding-past, step-past, arm-past, halves, wide-words}
-use Rattle.rows.specs.View.{shape-of, type-of, variant-of}
-use Rattle.plan.specs.Lookup.{fields-of, field-count}
 use Rattle.view.proofs.Made.{fields-length}
 use borrow.Author.Needs.{needs}
 use Rattle.view.proofs.environment.field_count.Statement.{statement}
