@@ -1,8 +1,9 @@
-// `StableSet` of stablemapset.rs, for the numbers of bindings: an array of 1,024 marks, lent.
+// `StableSet` of stablemapset.rs, for the numbers of bindings: 1,024 marks, lent as a slice.
 // Contracts speak of the set through `set-of` (specs/Marks.antt) alone.
 ghost use mathlib.Core.Path.{_≡_};
+ghost use Rattle.codegen.specs.Writer.{contains, insert};
 ghost use Rattle.codegen.specs.Terms.{no-marks};
-ghost use Rattle.emits.specs.Marks.{set-of, contains-marked, insert-marked};
+ghost use Rattle.emits.specs.Marks.{set-of};
 
 // No binding is in the set.
 pub fn empty() -> [bool; 1024]
@@ -12,20 +13,20 @@ pub fn empty() -> [bool; 1024]
 }
 
 // Is a binding in the set? One that has no place in it is not.
-pub fn contains(set: &[bool; 1024], binding: usize) -> bool
-    ensures { λ r. ⌜ r ≡ contains-marked (set-of (now (set .entry))) binding ⌝ }
+pub fn contains(set: &[bool], binding: usize) -> bool
+    ensures { λ r. ⌜ r ≡ contains (set-of (now (set .entry))) binding ⌝ }
 {
-    if binding < 1024 {
+    if binding < set.len() {
         return set[binding];
     }
     false
 }
 
 // A binding that has no place in the set changes nothing.
-pub fn insert(set: &mut [bool; 1024], binding: usize)
-    ensures { λ _. ⌜ set-of (now (set .exit)) ≡ insert-marked (set-of (now (set .entry))) binding ⌝ }
+pub fn insert(set: &mut [bool], binding: usize)
+    ensures { λ _. ⌜ set-of (now (set .exit)) ≡ insert (set-of (now (set .entry))) binding ⌝ }
 {
-    if binding < 1024 {
+    if binding < set.len() {
         set[binding] = true;
     }
 }

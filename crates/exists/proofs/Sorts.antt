@@ -52,8 +52,8 @@ module _ (plan words rows tables : List ℕ) (n : ℕ) where
     unfolding type-of
     sort-struct z o = rw (exists, type-is words rows tables plan n h g, ← q, ne-eqb k 0 z, ne-eqb k 1 o) (refl, refl)
 
-  pub variants-found : {order starts : List ℕ} → Ready words rows tables order starts → enum-exists e n ≡ true → length (cut order starts n) ≡ length (variants-of n (e .variants))
-  variants-found r q = ap length (r .index .numbers n (small (ltb n (length (e .types))) refl q)) ∙ numbers-count plan words rows tables n where
+  pub variants-found : {index : List ℕ} → Ready words rows tables index → enum-exists e n ≡ true → length (cut index index n) ≡ length (variants-of n (e .variants))
+  variants-found r q = ap length (r .index-is .numbers n (small (ltb n (length (e .types))) refl q)) ∙ numbers-count plan words rows tables n where
     small : (b : Bool) → ltb n (length (e .types)) ≡ b → (b && is-enum (type-at e n)) ≡ true → n < 256
     small true p g = omega (arith, ltb-true n (length (e .types)) p, types-count words rows tables plan, table-length words rows tables 4, r .few)
     small false p g = let z : _≡_ {A = ℕ} 0 1 = cc in absurd (omega arith)
@@ -96,13 +96,13 @@ module _ (plan words rows tables : List ℕ) (n : ℕ) where
     unfolding variants-of
     count-end h = rw (cuts-none words rows r m h) refl
 
-  pub fields-none : {order starts : List ℕ} (k : ℕ) → Ready words rows tables order starts → n < 256 → length (cut order starts n) ≤ k → 0 ≡ field-count (variant-at e n k .fields)
+  pub fields-none : {index : List ℕ} (k : ℕ) → Ready words rows tables index → n < 256 → length (cut index index n) ≤ k → 0 ≡ field-count (variant-at e n k .fields)
   fields-none k r h g =
-      let c = ap length (r .index .numbers n h) ∙ numbers-count plan words rows tables n in
+      let c = ap length (r .index-is .numbers n h) ∙ numbers-count plan words rows tables n in
       ap (λ (v : Variant). field-count (v .fields)) (sym (List·getD-eq-default (variants-of n (e .variants)) nothing (omega (arith, c))))
 
-  pub fields-found : {order starts : List ℕ} (k : ℕ) → Ready words rows tables order starts → n < 256 → k < length (cut order starts n)
-      → field-count (variant-of (cut words rows (nth (cut order starts n) k)) .fields) ≡ field-count (variant-at e n k .fields)
+  pub fields-found : {index : List ℕ} (k : ℕ) → Ready words rows tables index → n < 256 → k < length (cut index index n)
+      → field-count (variant-of (cut words rows (nth (cut index index n) k)) .fields) ≡ field-count (variant-at e n k .fields)
   fields-found k r h g =
-      let c = r .index .numbers n h in
+      let c = r .index-is .numbers n h in
       rw c (ap (λ (v : Variant). field-count (v .fields)) (number-at plan words rows tables n k (rw c at g)))

@@ -10,9 +10,9 @@ use Rattle.rows.specs.View.{type-of, variant-of, term-of, binding-of, block-of}
 use Rattle.variants.specs.Index.{VariantIndex}
 
 -- there are at most 256 types with the builtins, and their variants are indexed
-pub record Ready (words rows tables order starts : List ℕ) : Type 0 where
+pub record Ready (words rows tables index : List ℕ) : Type 0 where
   pub few : getD tables 5 0 - getD tables 4 0 ≤ 243
-  pub index : VariantIndex words rows tables order starts
+  pub index-is : VariantIndex words rows tables index
 
 -- the sorts of tables: 4 types, 5 variants, else terms
 unfoldable pub row-exists : Environment → ℕ → List ℕ → Bool

@@ -60,18 +60,17 @@ pub fn variant_exists(
     words: &[u32],
     rows: &[u32],
     tables: &[u32],
-    order: &[u32],
-    starts: &[u32],
+    index: &[u32],
     n: usize,
     k: usize,
 ) -> bool
-    requires { ⌜ Ready (now words) (now rows) (now tables) (now order) (now starts) ⌝ }
+    requires { ⌜ Ready (now words) (now rows) (now tables) (now index) ⌝ }
     ensures { λ b. ⌜ ((plan : List ℕ) → b ≡ variant-exists (environment-in plan (now (words .entry)) (now (rows .entry)) (now (tables .entry))) n k) ⌝ }
 {
     if type_sort(words, rows, tables, n) != 1 {
         return false;
     }
-    k < view::row_len(order, starts, n)
+    k < view::row_len(index, index, n)
 }
 
 fn is_present(f: FunctionKind) -> bool

@@ -20,12 +20,11 @@ fn binding_refers(
     words: &[u32],
     rows: &[u32],
     tables: &[u32],
-    order: &[u32],
-    starts: &[u32],
+    index: &[u32],
     args: usize,
     b: Binding,
 ) -> bool
-    requires { ⌜ Ready (now words) (now rows) (now tables) (now order) (now starts) ⌝ }
+    requires { ⌜ Ready (now words) (now rows) (now tables) (now index) ⌝ }
     ensures { λ r. ⌜ ((plan : List ℕ) → r ≡ binding-refers (environment-in plan (now (words .entry)) (now (rows .entry)) (now (tables .entry))) args (binding-told b)) ⌝ }
 {
     match b {
@@ -40,8 +39,7 @@ fn binding_refers(
             words,
             rows,
             tables,
-            order,
-            starts,
+            index,
             ty,
             variant,
         ),
@@ -58,11 +56,10 @@ fn constraint_refers(
     words: &[u32],
     rows: &[u32],
     tables: &[u32],
-    order: &[u32],
-    starts: &[u32],
+    index: &[u32],
     c: Constraint,
 ) -> bool
-    requires { ⌜ Ready (now words) (now rows) (now tables) (now order) (now starts) ⌝ }
+    requires { ⌜ Ready (now words) (now rows) (now tables) (now index) ⌝ }
     ensures { λ r. ⌜ ((plan : List ℕ) → r ≡ constraint-refers (environment-in plan (now (words .entry)) (now (rows .entry)) (now (tables .entry))) (constraint-told c)) ⌝ }
 {
     match c {
@@ -73,8 +70,7 @@ fn constraint_refers(
             words,
             rows,
             tables,
-            order,
-            starts,
+            index,
             ty,
             variant,
         ),
@@ -109,17 +105,16 @@ fn binding_row_refers(
     words: &[u32],
     rows: &[u32],
     tables: &[u32],
-    order: &[u32],
-    starts: &[u32],
+    index: &[u32],
     args: usize,
     n: usize,
     r: usize,
 ) -> bool
-    requires { ⌜ Ready (now words) (now rows) (now tables) (now order) (now starts) ⌝ }
+    requires { ⌜ Ready (now words) (now rows) (now tables) (now index) ⌝ }
     ensures { λ b. ⌜ ((plan : List ℕ) → b ≡ (binding-refers (environment-in plan (now (words .entry)) (now (rows .entry)) (now (tables .entry))) args (binding-of (cut (now (words .entry)) (now (rows .entry)) r) .binding) && every (λ q. ltb q n) (binding-of (cut (now (words .entry)) (now (rows .entry)) r) .sources))) ⌝ }
 {
     let b = view::binding::binding_at(words, rows, r);
-    if !binding_refers(words, rows, tables, order, starts, args, b) {
+    if !binding_refers(words, rows, tables, index, args, b) {
         return false;
     }
     checks::list::list_below(words, rows, r, 6, n)
@@ -129,12 +124,11 @@ fn block_row_refers(
     words: &[u32],
     rows: &[u32],
     tables: &[u32],
-    order: &[u32],
-    starts: &[u32],
+    index: &[u32],
     n: usize,
     r: usize,
 ) -> bool
-    requires { ⌜ Ready (now words) (now rows) (now tables) (now order) (now starts) ⌝ }
+    requires { ⌜ Ready (now words) (now rows) (now tables) (now index) ⌝ }
     ensures { λ b. ⌜ ((plan : List ℕ) → b ≡ row-refers (environment-in plan (now (words .entry)) (now (rows .entry)) (now (tables .entry))) n (block-of (cut (now (words .entry)) (now (rows .entry)) r))) ⌝ }
 {
     if view::block::is_step(words, rows, r) {
@@ -145,7 +139,7 @@ fn block_row_refers(
         return checks::list::list_below(words, rows, r, 7, n);
     }
     let c = view::block::constraint_at(words, rows, r);
-    if !constraint_refers(words, rows, tables, order, starts, c) {
+    if !constraint_refers(words, rows, tables, index, c) {
         return false;
     }
     checks::list::patterns_below(words, rows, r, n)
@@ -155,19 +149,18 @@ fn bindings_refer(
     words: &[u32],
     rows: &[u32],
     tables: &[u32],
-    order: &[u32],
-    starts: &[u32],
+    index: &[u32],
     args: usize,
     n: usize,
     t: usize,
 ) -> bool
-    requires { ⌜ Ready (now words) (now rows) (now tables) (now order) (now starts) ⌝ }
+    requires { ⌜ Ready (now words) (now rows) (now tables) (now index) ⌝ }
     ensures { λ b. ⌜ ((plan : List ℕ) → b ≡ every (λ ws. binding-refers (environment-in plan (now (words .entry)) (now (rows .entry)) (now (tables .entry))) args (binding-of ws .binding) && every (λ q. ltb q n) (binding-of ws .sources)) (table-rows (now (words .entry)) (now (rows .entry)) (now (tables .entry)) t)) ⌝ }
 {
     let end = view::next_bound(tables, t);
     let mut r = view::bound(tables, t);
     while r < end {
-        if !binding_row_refers(words, rows, tables, order, starts, args, n, r) {
+        if !binding_row_refers(words, rows, tables, index, args, n, r) {
             return false;
         }
         r += 1;
@@ -179,18 +172,17 @@ fn block_refers(
     words: &[u32],
     rows: &[u32],
     tables: &[u32],
-    order: &[u32],
-    starts: &[u32],
+    index: &[u32],
     n: usize,
     t: usize,
 ) -> bool
-    requires { ⌜ Ready (now words) (now rows) (now tables) (now order) (now starts) ⌝ }
+    requires { ⌜ Ready (now words) (now rows) (now tables) (now index) ⌝ }
     ensures { λ b. ⌜ ((plan : List ℕ) → b ≡ every (λ ws. row-refers (environment-in plan (now (words .entry)) (now (rows .entry)) (now (tables .entry))) n (block-of ws)) (table-rows (now (words .entry)) (now (rows .entry)) (now (tables .entry)) t)) ⌝ }
 {
     let end = view::next_bound(tables, t);
     let mut r = view::bound(tables, t);
     while r < end {
-        if !block_row_refers(words, rows, tables, order, starts, n, r) {
+        if !block_row_refers(words, rows, tables, index, n, r) {
             return false;
         }
         r += 1;
@@ -203,13 +195,12 @@ fn generated_refers(
     words: &[u32],
     rows: &[u32],
     tables: &[u32],
-    order: &[u32],
-    starts: &[u32],
+    index: &[u32],
     t: usize,
     bindings: usize,
     block: usize,
 ) -> bool
-    requires { ⌜ Ready (now words) (now rows) (now tables) (now order) (now starts) ⌝ }
+    requires { ⌜ Ready (now words) (now rows) (now tables) (now index) ⌝ }
     ensures { λ b. ⌜ ((plan : List ℕ) → bindings ≡ t + 1 → block ≡ t + 2 → b ≡ generated-refers (environment-in plan (now (words .entry)) (now (rows .entry)) (now (tables .entry))) (generated-at (now (words .entry)) (now (rows .entry)) (now (tables .entry)) t)) ⌝ }
 {
     let m = view::word(words, rows, view::row_at(rows, tables, t, 0), 0);
@@ -218,19 +209,19 @@ fn generated_refers(
     }
     let args = view::list_len(words, rows, view::row_at(rows, tables, 6, m), 8);
     let n = view::row_count(tables, bindings);
-    if !bindings_refer(words, rows, tables, order, starts, args, n, bindings) {
+    if !bindings_refer(words, rows, tables, index, args, n, bindings) {
         return false;
     }
-    block_refers(words, rows, tables, order, starts, n, block)
+    block_refers(words, rows, tables, index, n, block)
 }
 
-fn all_refer(words: &[u32], rows: &[u32], tables: &[u32], order: &[u32], starts: &[u32]) -> bool
-    requires { ⌜ Ready (now words) (now rows) (now tables) (now order) (now starts) ⌝ }
+fn all_refer(words: &[u32], rows: &[u32], tables: &[u32], index: &[u32]) -> bool
+    requires { ⌜ Ready (now words) (now rows) (now tables) (now index) ⌝ }
     ensures { λ b. ⌜ ((plan : List ℕ) → b ≡ every (generated-refers (environment-in plan (now (words .entry)) (now (rows .entry)) (now (tables .entry)))) (plan-in plan (now (words .entry)) (now (rows .entry)) (now (tables .entry)) .generated)) ⌝ }
 {
     let mut t = 7;
     while t + 3 < tables.len() {
-        if !generated_refers(words, rows, tables, order, starts, t, t + 1, t + 2) {
+        if !generated_refers(words, rows, tables, index, t, t + 1, t + 2) {
             return false;
         }
         t += 3;
@@ -238,8 +229,8 @@ fn all_refer(words: &[u32], rows: &[u32], tables: &[u32], order: &[u32], starts:
     true
 }
 
-pub fn all_exist(words: &[u32], rows: &[u32], tables: &[u32], order: &[u32], starts: &[u32]) -> bool
-    requires { ⌜ Ready (now words) (now rows) (now tables) (now order) (now starts) ⌝ }
+pub fn all_exist(words: &[u32], rows: &[u32], tables: &[u32], index: &[u32]) -> bool
+    requires { ⌜ Ready (now words) (now rows) (now tables) (now index) ⌝ }
     ensures { λ b. ⌜ ((plan : List ℕ) → b ≡ all-exist (plan-in plan (now (words .entry)) (now (rows .entry)) (now (tables .entry)))) ⌝ }
 {
     if !super::environment::table_exists(words, rows, tables, 4, 4) {
@@ -251,5 +242,5 @@ pub fn all_exist(words: &[u32], rows: &[u32], tables: &[u32], order: &[u32], sta
     if !super::environment::table_exists(words, rows, tables, 6, 6) {
         return false;
     }
-    all_refer(words, rows, tables, order, starts)
+    all_refer(words, rows, tables, index)
 }

@@ -52,33 +52,25 @@ fn variant_fields(
     words: &[u32],
     rows: &[u32],
     tables: &[u32],
-    order: &[u32],
-    starts: &[u32],
+    index: &[u32],
     n: usize,
     k: usize,
 ) -> usize
-    requires { ⌜ Ready (now words) (now rows) (now tables) (now order) (now starts) ⌝ }
+    requires { ⌜ Ready (now words) (now rows) (now tables) (now index) ⌝ }
     ensures { λ c. ⌜ ((plan : List ℕ) → c ≡ field-count (variant-at (environment-in plan (now (words .entry)) (now (rows .entry)) (now (tables .entry))) n k .fields)) ⌝ }
 {
     if 256 <= n {
         return scan_fields(words, rows, tables, n, k);
     }
-    if view::row_len(order, starts, n) <= k {
+    if view::row_len(index, index, n) <= k {
         return 0;
     }
-    view::environment::variant_field_count(words, rows, view::word(order, starts, n, k))
+    view::environment::variant_field_count(words, rows, view::word(index, index, n, k))
 }
 
 // How many sources a binding has.
-fn source_count(
-    words: &[u32],
-    rows: &[u32],
-    tables: &[u32],
-    order: &[u32],
-    starts: &[u32],
-    b: Binding,
-) -> usize
-    requires { ⌜ Ready (now words) (now rows) (now tables) (now order) (now starts) ⌝ }
+fn source_count(words: &[u32], rows: &[u32], tables: &[u32], index: &[u32], b: Binding) -> usize
+    requires { ⌜ Ready (now words) (now rows) (now tables) (now index) ⌝ }
     ensures { λ c. ⌜ ((plan : List ℕ) → c ≡ source-count (environment-in plan (now (words .entry)) (now (rows .entry)) (now (tables .entry))) (binding-told b)) ⌝ }
 {
     match b {
@@ -98,8 +90,7 @@ fn source_count(
             words,
             rows,
             tables,
-            order,
-            starts,
+            index,
             ty,
             variant,
         ),
@@ -113,15 +104,8 @@ fn source_count(
 }
 
 // How many bindings an arm has.
-fn pattern_count(
-    words: &[u32],
-    rows: &[u32],
-    tables: &[u32],
-    order: &[u32],
-    starts: &[u32],
-    c: Constraint,
-) -> usize
-    requires { ⌜ Ready (now words) (now rows) (now tables) (now order) (now starts) ⌝ }
+fn pattern_count(words: &[u32], rows: &[u32], tables: &[u32], index: &[u32], c: Constraint) -> usize
+    requires { ⌜ Ready (now words) (now rows) (now tables) (now index) ⌝ }
     ensures { λ n. ⌜ ((plan : List ℕ) → n ≡ pattern-count (environment-in plan (now (words .entry)) (now (rows .entry)) (now (tables .entry))) (constraint-told c)) ⌝ }
 {
     match c {
@@ -132,8 +116,7 @@ fn pattern_count(
             words,
             rows,
             tables,
-            order,
-            starts,
+            index,
             ty,
             variant,
         ),
@@ -143,46 +126,36 @@ fn pattern_count(
 }
 
 // Whether the list of row r has the length that its binding or arm asks for; the sorts are 8 bindings, else block rows.
-fn row_fits(
-    words: &[u32],
-    rows: &[u32],
-    tables: &[u32],
-    order: &[u32],
-    starts: &[u32],
-    sort: u32,
-    r: usize,
-) -> bool
-    requires { ⌜ Ready (now words) (now rows) (now tables) (now order) (now starts) ⌝ }
+fn row_fits(words: &[u32], rows: &[u32], tables: &[u32], index: &[u32], sort: u32, r: usize) -> bool
+    requires { ⌜ Ready (now words) (now rows) (now tables) (now index) ⌝ }
     ensures { λ b. ⌜ ((plan : List ℕ) → b ≡ row-fits (environment-in plan (now (words .entry)) (now (rows .entry)) (now (tables .entry))) sort (cut (now (words .entry)) (now (rows .entry)) r)) ⌝ }
 {
     if sort == 8 {
         let b = view::binding::binding_at(words, rows, r);
-        return view::list_len(words, rows, r, 6)
-            == source_count(words, rows, tables, order, starts, b);
+        return view::list_len(words, rows, r, 6) == source_count(words, rows, tables, index, b);
     }
     if view::block::is_step(words, rows, r) {
         return true;
     }
     let c = view::block::constraint_at(words, rows, r);
-    view::list_len(words, rows, r, 7) == pattern_count(words, rows, tables, order, starts, c)
+    view::list_len(words, rows, r, 7) == pattern_count(words, rows, tables, index, c)
 }
 
 fn table_fits(
     words: &[u32],
     rows: &[u32],
     tables: &[u32],
-    order: &[u32],
-    starts: &[u32],
+    index: &[u32],
     sort: u32,
     t: usize,
 ) -> bool
-    requires { ⌜ Ready (now words) (now rows) (now tables) (now order) (now starts) ⌝ }
+    requires { ⌜ Ready (now words) (now rows) (now tables) (now index) ⌝ }
     ensures { λ b. ⌜ ((plan : List ℕ) → b ≡ every (row-fits (environment-in plan (now (words .entry)) (now (rows .entry)) (now (tables .entry))) sort) (table-rows (now (words .entry)) (now (rows .entry)) (now (tables .entry)) t)) ⌝ }
 {
     let end = view::next_bound(tables, t);
     let mut r = view::bound(tables, t);
     while r < end {
-        if !row_fits(words, rows, tables, order, starts, sort, r) {
+        if !row_fits(words, rows, tables, index, sort, r) {
             return false;
         }
         r += 1;
@@ -195,34 +168,27 @@ fn tables_fit(
     words: &[u32],
     rows: &[u32],
     tables: &[u32],
-    order: &[u32],
-    starts: &[u32],
+    index: &[u32],
     bindings: usize,
     block: usize,
 ) -> bool
-    requires { ⌜ Ready (now words) (now rows) (now tables) (now order) (now starts) ⌝ }
+    requires { ⌜ Ready (now words) (now rows) (now tables) (now index) ⌝ }
     ensures { λ b. ⌜ ((plan : List ℕ) → b ≡ (every (row-fits (environment-in plan (now (words .entry)) (now (rows .entry)) (now (tables .entry))) 8) (table-rows (now (words .entry)) (now (rows .entry)) (now (tables .entry)) bindings)
         && every (row-fits (environment-in plan (now (words .entry)) (now (rows .entry)) (now (tables .entry))) 9) (table-rows (now (words .entry)) (now (rows .entry)) (now (tables .entry)) block))) ⌝ }
 {
-    if !table_fits(words, rows, tables, order, starts, 8, bindings) {
+    if !table_fits(words, rows, tables, index, 8, bindings) {
         return false;
     }
-    table_fits(words, rows, tables, order, starts, 9, block)
+    table_fits(words, rows, tables, index, 9, block)
 }
 
-pub fn lengths_fit(
-    words: &[u32],
-    rows: &[u32],
-    tables: &[u32],
-    order: &[u32],
-    starts: &[u32],
-) -> bool
-    requires { ⌜ Ready (now words) (now rows) (now tables) (now order) (now starts) ⌝ }
+pub fn lengths_fit(words: &[u32], rows: &[u32], tables: &[u32], index: &[u32]) -> bool
+    requires { ⌜ Ready (now words) (now rows) (now tables) (now index) ⌝ }
     ensures { λ b. ⌜ ((plan : List ℕ) → b ≡ lengths-fit (plan-in plan (now (words .entry)) (now (rows .entry)) (now (tables .entry)))) ⌝ }
 {
     let mut t = 7;
     while t + 3 < tables.len() {
-        if !tables_fit(words, rows, tables, order, starts, t + 1, t + 2) {
+        if !tables_fit(words, rows, tables, index, t + 1, t + 2) {
             return false;
         }
         t += 3;

@@ -17,13 +17,12 @@ pub fn judge(words: &[u32], rows: &[u32], tables: &[u32]) -> u32
     if !checks::most::within_most(words, rows, tables) {
         return 4;
     }
-    let mut order = [0u32; 1024];
-    let mut starts = [0u32; 257];
-    variants::index_variants(words, rows, tables, &mut order, &mut starts);
-    if !generated::all_exist(words, rows, tables, &order, &starts) {
+    let mut index = [0u32; 1281];
+    variants::index_variants(words, rows, tables, &mut index);
+    if !generated::all_exist(words, rows, tables, &index) {
         return 5;
     }
-    if !lengths::lengths_fit(words, rows, tables, &order, &starts) {
+    if !lengths::lengths_fit(words, rows, tables, &index) {
         return 6;
     }
     if !checks::lower::sources_lower(words, rows, tables) {

@@ -9,35 +9,35 @@ use Rattle.checks.proofs.list.list_below.Reads as list-below-reads
 use Rattle.exists.proofs.counts.sym_count.Reads as sym-count-reads
 use Rattle.exists.proofs.counts.type_count.Reads as type-count-reads
 
--- src/environment.rt:27:24
+-- src/environment.rt:34:24
 enum-told : tie.Need-enum-told
 enum-told c = search needs
 
--- src/environment.rt:28:76
+-- src/environment.rt:40:13
 enum-told-2 : tie.Need-enum-told-2
 enum-told-2 c = search needs
 
--- src/environment.rt:28:76
+-- src/environment.rt:40:13
 sym-count-requires : tie.Need-sym-count-requires
 sym-count-requires c κs = search needs
 
--- src/environment.rt:28:95
+-- src/environment.rt:41:13
 type-count-requires : tie.Need-type-count-requires
 type-count-requires c κs = search needs
 
--- src/environment.rt:28:25
+-- src/environment.rt:35:25
 fields-below-requires : tie.Need-fields-below-requires
 fields-below-requires c κs = search needs
 
--- src/environment.rt:29:74
+-- src/environment.rt:43:74
 enum-told-3 : tie.Need-enum-told-3
 enum-told-3 c = search needs
 
--- src/environment.rt:29:74
+-- src/environment.rt:43:74
 type-count-requires-2 : tie.Need-type-count-requires-2
 type-count-requires-2 c κs = search needs
 
--- src/environment.rt:29:25
+-- src/environment.rt:43:25
 list-below-requires : tie.Need-list-below-requires
 list-below-requires c κs = search needs
 

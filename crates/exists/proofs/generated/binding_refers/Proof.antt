@@ -12,83 +12,83 @@ use Rattle.exists.proofs.counts.type_count.Reads as type-count-reads
 use Rattle.exists.proofs.counts.type_sort.Reads as type-sort-reads
 use Rattle.exists.proofs.counts.variant_exists.Reads as variant-exists-reads
 
--- src/generated.rt:24:38
+-- src/generated.rt:31:38
 enum-told : tie.Need-enum-told
 enum-told c = search needs
 
--- src/generated.rt:25:29
+-- src/generated.rt:32:29
 enum-known-b : tie.Need-enum-known-b
 enum-known-b c = search needs
 
--- src/generated.rt:25:46
+-- src/generated.rt:32:46
 type-count-requires : tie.Need-type-count-requires
 type-count-requires c κs = search needs
 
--- src/generated.rt:26:30
+-- src/generated.rt:33:30
 enum-known-b-2 : tie.Need-enum-known-b-2
 enum-known-b-2 c = search needs
 
--- src/generated.rt:26:45
+-- src/generated.rt:33:45
 sym-count-requires : tie.Need-sym-count-requires
 sym-count-requires c κs = search needs
 
--- src/generated.rt:27:29
+-- src/generated.rt:34:29
 enum-known-b-3 : tie.Need-enum-known-b-3
 enum-known-b-3 c = search needs
 
--- src/generated.rt:28:30
+-- src/generated.rt:35:30
 enum-known-b-4 : tie.Need-enum-known-b-4
 enum-known-b-4 c = search needs
 
--- src/generated.rt:28:40
+-- src/generated.rt:35:40
 extractor-exists-requires : tie.Need-extractor-exists-requires
 extractor-exists-requires c κs = search needs
 
--- src/generated.rt:29:32
+-- src/generated.rt:36:32
 enum-known-b-5 : tie.Need-enum-known-b-5
 enum-known-b-5 c = search needs
 
--- src/generated.rt:29:42
+-- src/generated.rt:36:42
 constructor-exists-requires : tie.Need-constructor-exists-requires
 constructor-exists-requires c κs = search needs
 
--- src/generated.rt:30:30
+-- src/generated.rt:37:30
 enum-told-2 : tie.Need-enum-told-2
 enum-told-2 c = search needs
 
--- src/generated.rt:31:32
+-- src/generated.rt:38:32
 enum-known-b-6 : tie.Need-enum-known-b-6
 enum-known-b-6 c = search needs
 
--- src/generated.rt:31:49
+-- src/generated.rt:38:49
 variant-exists-requires : tie.Need-variant-exists-requires
 variant-exists-requires c κs = search needs
 
--- src/generated.rt:32:31
+-- src/generated.rt:46:31
 enum-known-b-7 : tie.Need-enum-known-b-7
 enum-known-b-7 c = search needs
 
--- src/generated.rt:32:39
+-- src/generated.rt:46:39
 type-sort-requires : tie.Need-type-sort-requires
 type-sort-requires c κs = search needs
 
--- src/generated.rt:33:30
+-- src/generated.rt:47:30
 enum-told-3 : tie.Need-enum-told-3
 enum-told-3 c = search needs
 
--- src/generated.rt:34:31
+-- src/generated.rt:48:31
 enum-told-4 : tie.Need-enum-told-4
 enum-told-4 c = search needs
 
--- src/generated.rt:35:39
+-- src/generated.rt:49:39
 enum-told-5 : tie.Need-enum-told-5
 enum-told-5 c = search needs
 
--- src/generated.rt:36:41
+-- src/generated.rt:50:41
 enum-told-6 : tie.Need-enum-told-6
 enum-told-6 c = search needs
 
--- src/generated.rt:37:42
+-- src/generated.rt:51:42
 enum-told-7 : tie.Need-enum-told-7
 enum-told-7 c = search needs
 
@@ -100,12 +100,12 @@ returns c = λ plan. rw (c .enum-told .given .1)
 -- src/generated.rt:19:1
 returns-2 : tie.Need-returns-2
 unfolding binding-refers
-returns-2 c = λ plan. rw (c .before .before .b .given .1, ← c .type-count .ensures plan (c .before .before .before .before .before .before .before .before .before .args .words .now) (c .before .before .before .before .before .before .before .before .before .args .rows .now)) refl
+returns-2 c = λ plan. rw (c .before .before .b .given .1, ← c .type-count .ensures plan (c .before .before .before .before .before .before .before .before .args .words .now) (c .before .before .before .before .before .before .before .before .args .rows .now)) refl
 
 -- src/generated.rt:19:1
 returns-3 : tie.Need-returns-3
 unfolding binding-refers
-returns-3 c = λ plan. rw (c .before .before .b2 .given .1, ← c .sym-count .ensures plan (c .before .before .before .before .before .before .before .before .before .args .words .now) (c .before .before .before .before .before .before .before .before .before .args .rows .now)) refl
+returns-3 c = λ plan. rw (c .before .before .b2 .given .1, ← c .sym-count .ensures plan (c .before .before .before .before .before .before .before .before .args .words .now) (c .before .before .before .before .before .before .before .before .args .rows .now)) refl
 
 -- src/generated.rt:19:1
 returns-4 : tie.Need-returns-4

@@ -23,55 +23,55 @@ Inv-loop words rows tables n k end r₀ left₀ r left = (plan : List ℕ) → c
 abbrev μ-loop : tie.MeasureT-loop
 μ-loop words rows tables n k end r₀ left₀ r left = end - r
 
--- src/lengths.rt:33:9
+-- src/lengths.rt:32:9
 next-bound-requires : tie.Need-next-bound-requires Inv-loop μ-loop
 next-bound-requires c κs = search needs
 
--- src/lengths.rt:34:9
+-- src/lengths.rt:33:9
 bound-requires : tie.Need-bound-requires Inv-loop μ-loop
 bound-requires c κs = search needs
 
--- src/lengths.rt:36:5
+-- src/lengths.rt:35:5
 loop-holds : tie.Need-loop-holds Inv-loop μ-loop
 loop-holds c = λ plan. count-start plan (c .before .before .before .before .before .args .words .now) (c .before .before .before .before .before .args .rows .now) (c .before .before .before .before .before .args .tables .now) (c .before .before .before .before .before .args .n) (c .before .before .before .before .before .args .k) _ _ (c .bound .ensures .0) (c .before .next-bound .ensures .0)
 
--- src/lengths.rt:37:20
+-- src/lengths.rt:36:20
 add-next : tie.Need-add-next Inv-loop μ-loop
 add-next c = search needs
 
--- src/lengths.rt:38:12
+-- src/lengths.rt:37:12
 word-requires : tie.Need-word-requires Inv-loop μ-loop
 word-requires c κs = search needs
 
--- src/lengths.rt:36:5
+-- src/lengths.rt:35:5
 loop-less : tie.Need-loop-less Inv-loop μ-loop
 loop-less c = search needs
 
--- src/lengths.rt:36:5
+-- src/lengths.rt:35:5
 loop-again : tie.Need-loop-again Inv-loop μ-loop
 loop-again c = λ plan. sym (count-other plan (c .before .before .before .before .before .before .before .before .before .args .words .now) (c .before .before .before .before .before .before .before .before .before .args .rows .now) (c .before .before .before .before .before .before .before .before .before .args .tables .now) (c .before .before .before .before .before .before .before .before .before .args .n) (c .before .before .before .loop .r) (c .before .before .before .before .before .next-bound .result) (c .before .before .before .loop .left) (c .before .before .loop-test .taken) (λ q. c .if1 .taken (c .before .word .ensures ∙ q))) ∙ c .before .before .before .loop .inv plan
 
--- src/lengths.rt:43:13
+-- src/lengths.rt:42:13
 variant-field-count-requires : tie.Need-variant-field-count-requires Inv-loop μ-loop
 variant-field-count-requires c κs = search needs
 
--- src/lengths.rt:43:13
+-- src/lengths.rt:42:13
 returns : tie.Need-returns Inv-loop μ-loop
 returns c = λ plan. c .variant-field-count .ensures ∙ count-same plan (c .before .before .before .before .before .before .before .before .before .before .before .args .words .now) (c .before .before .before .before .before .before .before .before .before .before .before .args .rows .now) (c .before .before .before .before .before .before .before .before .before .before .before .args .tables .now) (c .before .before .before .before .before .before .before .before .before .before .before .args .n) (c .before .before .before .before .before .loop .r) (c .before .before .before .before .before .before .before .next-bound .result) (c .before .before .before .before .before .loop .left) (c .before .before .before .before .loop-test .taken) (sym (c .before .before .before .word .ensures) ∙ c .before .before .if1 .left) (c .before .if2 .taken) ∙ c .before .before .before .before .before .loop .inv plan
 
--- src/lengths.rt:45:9
+-- src/lengths.rt:44:9
 sub-left : tie.Need-sub-left Inv-loop μ-loop
 sub-left c = search needs
 
--- src/lengths.rt:36:5
+-- src/lengths.rt:35:5
 loop-less-2 : tie.Need-loop-less-2 Inv-loop μ-loop
 loop-less-2 c = search needs
 
--- src/lengths.rt:36:5
+-- src/lengths.rt:35:5
 loop-again-2 : tie.Need-loop-again-2 Inv-loop μ-loop
 loop-again-2 c = λ plan. sym (count-later plan (c .before .before .before .before .before .before .before .before .before .before .args .words .now) (c .before .before .before .before .before .before .before .before .before .before .args .rows .now) (c .before .before .before .before .before .before .before .before .before .before .args .tables .now) (c .before .before .before .before .before .before .before .before .before .before .args .n) (c .before .before .before .before .loop .r) (c .before .before .before .before .before .before .next-bound .result) (c .before .before .before .before .loop .left) (c .before .before .before .loop-test .taken) (sym (c .before .before .word .ensures) ∙ c .before .if1 .left) (c .before .before .before .before .loop .left - 1) (omega arith)) ∙ c .before .before .before .before .loop .inv plan
 
--- src/lengths.rt:30:1
+-- src/lengths.rt:29:1
 returns-2 : tie.Need-returns-2 Inv-loop μ-loop
 returns-2 c = λ plan. count-end plan (c .before .before .before .before .before .before .before .args .words .now) (c .before .before .before .before .before .before .before .args .rows .now) (c .before .before .before .before .before .before .before .args .tables .now) (c .before .before .before .before .before .before .before .args .n) (c .before .loop .r) (c .before .before .before .next-bound .result) (c .before .loop .left) (c .loop-test .left) ∙ c .before .loop .inv plan
 

@@ -10,27 +10,27 @@ use Rattle.view.proofs.environment.type_field_count.Reads as type-field-count-r
 use Rattle.view.proofs.row_at.Reads as row-at-reads
 use Rattle.view.proofs.row_count.Reads as row-count-reads
 
--- src/lengths.rt:21:9
+-- src/lengths.rt:20:9
 returns : tie.Need-returns
 returns c = λ plan. fields-builtin plan (c .before .before .before .before .args .words .now) (c .before .before .before .before .args .rows .now) (c .before .before .before .before .args .tables .now) (c .before .before .before .before .args .n) (c .if1 .taken)
 
--- src/lengths.rt:23:8
+-- src/lengths.rt:22:8
 row-count-requires : tie.Need-row-count-requires
 row-count-requires c κs = search needs
 
--- src/lengths.rt:24:9
+-- src/lengths.rt:23:9
 returns-2 : tie.Need-returns-2
 returns-2 c = λ plan. fields-past plan (c .before .before .before .before .before .before .args .words .now) (c .before .before .before .before .before .before .args .rows .now) (c .before .before .before .before .before .before .args .tables .now) (c .before .before .before .before .before .before .args .n) (c .before .before .if1 .left) (omega (arith, c .before .row-count .ensures .0 (c .before .before .before .before .before .before .args .words .now) (c .before .before .before .before .before .before .args .rows .now)))
 
--- src/lengths.rt:26:54
+-- src/lengths.rt:25:54
 row-at-requires : tie.Need-row-at-requires
 row-at-requires c κs = search needs
 
--- src/lengths.rt:26:5
+-- src/lengths.rt:25:5
 type-field-count-requires : tie.Need-type-field-count-requires
 type-field-count-requires c κs = search needs
 
--- src/lengths.rt:17:1
+-- src/lengths.rt:16:1
 returns-3 : tie.Need-returns-3
 returns-3 c = λ plan. c .type-field-count .ensures ∙ rw (c .before .row-at .ensures (c .before .before .before .before .before .before .before .before .args .words .now)) (fields-at plan (c .before .before .before .before .before .before .before .before .args .words .now) (c .before .before .before .before .before .before .before .before .args .rows .now) (c .before .before .before .before .before .before .before .before .args .tables .now) (c .before .before .before .before .before .before .before .before .args .n) (c .before .before .before .before .if1 .left) (omega (arith, c .before .before .before .row-count .ensures .0 (c .before .before .before .before .before .before .before .before .args .words .now) (c .before .before .before .before .before .before .before .before .args .rows .now))))
 

@@ -1,0 +1,4 @@
+pub mod Fields
+pub mod Holds
+pub mod Signature
+pub mod Types
