@@ -71,7 +71,7 @@ pub fn fill(s: &[u8], words: &mut [u32], rows: &mut [u32], tables: &mut [u32]) -
     let mut j = 0;
     let mut inside = false;
     loop {
-        let e = tokens::find(s, at, 10);
+        let e = tokens::find_far(s, at, 10);
         let sort = sort_at(j);
         if e == s.len() {
             if e != at {

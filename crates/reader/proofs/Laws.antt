@@ -1,7 +1,7 @@
 -- Laws of the reader's answer. Assumes nothing.
 use Prim.Native.Nat.{ℕ, _+_, _-_, _*_, _≤_, _<_}
 use mathlib.Core.Path.{_≡_, refl, sym, _∙_}
-use mathlib.Core.Bool.{Bool, true, false, cond}
+use mathlib.Core.Bool.{Bool, true, false, cond, _&&_}
 use mathlib.Core.List.{List, [], _∷_}
 use mathlib.Core.Option.{Option, some, none}
 use native.Mathlib.Omega.{arith}
@@ -25,18 +25,15 @@ use Rattle.reader.specs.declared.Laid.the-variants.{Refused, Held}
 
 -- bytes
 
-pub every-end : (s : List ℕ) (i : ℕ) → length s ≤ i → every allowed (drop i s) ≡ true
+pub every-end : (s : List ℕ) (good : Bool) (i : ℕ) → length s ≤ i → (good && every allowed (drop i s)) ≡ good
 unfolding every
-every-end s i h = rw (drop-of-length-le s h)
+every-end s true i h = rw (drop-of-length-le s h)
+every-end s false i h = refl
 
-module _ (s : List ℕ) (i : ℕ) (h : i < length s) where
-  pub every-not : allowed (getD s i 0) ≡ false → every allowed (drop i s) ≡ false
-  unfolding every
-  every-not e = rw (drop-cons s i 0 h, e)
-
-  pub every-next : allowed (getD s i 0) ≡ true → every allowed (drop i s) ≡ every allowed (drop (i + 1) s)
-  unfolding every
-  every-next e = rw (drop-cons s i 0 h, e, add-one)
+pub every-next : (s : List ℕ) (good : Bool) (i : ℕ) → i < length s → (good && allowed (getD s i 0) && every allowed (drop (i + 1) s)) ≡ (good && every allowed (drop i s))
+unfolding every
+every-next s true i h = rw (drop-cons s i 0 h, add-one)
+every-next s false i h = refl
 
 -- the refusals
 

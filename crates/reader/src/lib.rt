@@ -1,6 +1,7 @@
 // A plan's bytes into the reader's buffers: refusals 1 to 3.
 use layout::Filled;
 ghost use mathlib.Core.Path.{_≡_};
+ghost use mathlib.Core.Bool.{_&&_};
 ghost use Prim.Native.Nat.{_≤_};
 ghost use lib.ListN.{length};
 ghost use Rattle.plan.specs.Refusal.{allowed, bytes-allowed, number-of};
@@ -25,18 +26,23 @@ fn is_allowed(c: u8) -> bool
     c <= 126
 }
 
-// Whether each byte is allowed in a plan.
+fn both(a: bool, b: bool) -> bool
+    ensures { λ r. ⌜ r ≡ (a && b) ⌝ }
+{
+    if a { b } else { false }
+}
+
+// Whether each byte is allowed in a plan. All are looked at, since a loop without a way out takes many bytes at a time.
 fn all_allowed(s: &[u8]) -> bool
     ensures { λ r. ⌜ r ≡ bytes-allowed (now (s .entry)) ⌝ }
 {
+    let mut good = true;
     let mut i = 0;
     while i < s.len() {
-        if !is_allowed(s[i]) {
-            return false;
-        }
+        good = both(good, is_allowed(s[i]));
         i += 1;
     }
-    true
+    good
 }
 
 // Reads a plan into buffers that are long enough.

@@ -28,6 +28,15 @@ fn sort_of(sorts: &[u32], k: usize) -> u32
     0
 }
 
+// The kinds' names stand one after the other; these are their starts, and the end of the last one.
+const TYPE_KINDS: [u32; 6] = [0, 4, 8, 12, 17, 22];
+
+const SHAPE_KINDS: [u32; 4] = [0, 4, 9, 14];
+
+const BINDING_KINDS: [u32; 15] = [0, 4, 7, 11, 14, 21, 30, 34, 41, 47, 51, 60, 70, 82, 95];
+
+const BLOCK_KINDS: [u32; 11] = [0, 5, 10, 14, 20, 24, 27, 31, 38, 44, 48];
+
 const TYPE_BITS: [u32; 5] = [0, 3, 3, 3, 3];
 
 const TYPE_POSS: [u32; 5] = [0, 1, 1, 1, 1];
@@ -59,7 +68,11 @@ fn put_options(line: &[u8], out: &mut [u32], at: Next) -> Next
 fn put_type(line: &[u8], out: &mut [u32], at: Next) -> Next
     ensures { λ r. ⌜ Wrote (now (out .entry)) at (type-words (now (line .entry))) r (now (out .exit)) ⌝ }
 {
-    let k = tokens::find_name(b"prim enum unit named tuple", tokens::part(line, 32, 0));
+    let k = tokens::find_name(
+        b"primenumunitnamedtuple",
+        &TYPE_KINDS,
+        tokens::part(line, 32, 0),
+    );
     let bits = sort_of(&TYPE_BITS, k);
     let p0 = spaced(line, 5, at);
     let p1 = values::put_kind(5, k, out, p0);
@@ -73,7 +86,7 @@ fn put_type(line: &[u8], out: &mut [u32], at: Next) -> Next
 fn put_variant(line: &[u8], out: &mut [u32], at: Next) -> Next
     ensures { λ r. ⌜ Wrote (now (out .entry)) at (variant-words (now (line .entry))) r (now (out .exit)) ⌝ }
 {
-    let k = tokens::find_name(b"unit named tuple", tokens::part(line, 32, 2));
+    let k = tokens::find_name(b"unitnamedtuple", &SHAPE_KINDS, tokens::part(line, 32, 2));
     let p0 = spaced(line, 3, at);
     let p1 = values::put_cell(1, line, 0, out, p0);
     let p2 = values::put_cell(1, line, 1, out, p1);
@@ -107,7 +120,8 @@ fn put_binding(line: &[u8], out: &mut [u32], at: Next) -> Next
     ensures { λ r. ⌜ Wrote (now (out .entry)) at (binding-words (now (line .entry))) r (now (out .exit)) ⌝ }
 {
     let k = tokens::find_name(
-        b"bool int prim arg extract construct iter variant struct some matchsome matchtuple matchvariant extractstruct",
+        b"boolintprimargextractconstructitervariantstructsomematchsomematchtuplematchvariantextractstruct",
+        &BINDING_KINDS,
         tokens::part(line, 32, 0),
     );
     let p0 = spaced(line, 3, at);
@@ -121,7 +135,8 @@ fn put_block_row(line: &[u8], out: &mut [u32], at: Next) -> Next
     ensures { λ r. ⌜ Wrote (now (out .entry)) at (block-words (now (line .entry))) r (now (out .exit)) ⌝ }
 {
     let k = tokens::find_name(
-        b"match equal loop return bool int prim variant struct some",
+        b"matchequalloopreturnboolintprimvariantstructsome",
+        &BLOCK_KINDS,
         tokens::part(line, 32, 1),
     );
     let p0 = spaced(line, 4, at);

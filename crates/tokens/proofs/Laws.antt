@@ -12,7 +12,7 @@ use lib.Seq.{drop-cons, drop-drop, take-all}
 use borrow.Author.Tests.{eq-eqb, ne-eqb, le-leb, lt-leb, leb-true, leb-false}
 use Rattle.text.specs.Split.{push, split, same}
 use Rattle.plan.specs.Layout.{digit, digits, decimal-from, beyond, number, hex-digit, hex-digits, hex-from}
-use Rattle.tokens.specs.Token.{until, place, numeral, hex-value, hex-numeral}
+use Rattle.tokens.specs.Token.{until, place, named, rising, numeral, hex-value, hex-numeral}
 
 pub until-end : (b : ℕ) (s : List ℕ) (i : ℕ) → length s ≤ i → until b (drop i s) ≡ 0
 unfolding until
@@ -25,6 +25,13 @@ until-here b s i h e = rw (drop-cons s i 0 h, eq-eqb _ _ (sym e))
 pub until-next : (b : ℕ) (s : List ℕ) (i : ℕ) → i < length s → (getD s i 0 ≡ b → ⊥) → until b (drop i s) ≡ until b (drop (i + 1) s) + 1
 unfolding until
 until-next b s i h e = rw (drop-cons s i 0 h, ne-eqb _ _ (λ q. e (sym q))) (simp add-one)
+
+pub until-far : (b : ℕ) (s : List ℕ) (i k n : ℕ) → i + k < length s → (getD s (i + k) 0 ≡ b → ⊥) → n ≡ k + until b (drop (i + k) s) → n ≡ k + 1 + until b (drop (i + (k + 1)) s)
+until-far b s i k n h e q = let z : i + k + 1 ≡ i + (k + 1) = omega arith in omega (arith, q, rw z at (until-next b s (i + k) h e))
+
+pub not-either : (a b : Bool) → (a || b) ≡ false → (a ≡ false) × (b ≡ false)
+not-either true b p = let z : _≡_ {A = ℕ} 0 1 = cc in absurd (omega arith)
+not-either false b p = (refl, p)
 
 -- numbers
 
@@ -201,23 +208,39 @@ no-part b s i e j k here h g p =
     let d : j + suc (k - suc j) ≡ k = omega arith in
     sym (ap (λ (m : ℕ). getD (split (eqb b) s) m []) d) ∙ sym (getD-drops (split (eqb b) s) j (suc (k - suc j)) []) ∙ rw (p, split-last b s i e here h)
 
--- the place of t among the names from i on, by the name up to the space at e
-module _ (s t : List ℕ) (i e : ℕ) (here : e ≡ i + until 32 (drop i s)) where
-  pub place-here : e ≤ length s → same t (take (e - i) (drop i s)) ≡ true → place (split (eqb 32) (drop i s)) t ≡ 0
-  unfolding place
-  place-here h p = by-test (leb (length s) e) refl where
-    by-test : (b : Bool) → leb (length s) e ≡ b → place (split (eqb 32) (drop i s)) t ≡ 0
-    by-test true g = rw (split-last 32 s i e here (omega (arith, leb-true (length s) e g)), p)
-    by-test false g = rw (split-more 32 s i e here (omega (arith, leb-false (length s) e g)), p)
+and-both : (a b : Bool) → (a && b) ≡ true → (a ≡ true) × (b ≡ true)
+and-both true b p = (refl, p)
+and-both false b p = let z : _≡_ {A = ℕ} 0 1 = cc in absurd (omega arith)
 
-  pub place-last : e ≡ length s → same t (take (e - i) (drop i s)) ≡ false → place (split (eqb 32) (drop i s)) t ≡ 1
-  unfolding place
-  place-last h p = rw (split-last 32 s i e here h, p)
+-- the place of t among the names from the name n on
+named-next : (s l : List ℕ) (n : ℕ) → n + 1 < length l → named s (drop n l) ≡ take (getD l (n + 1) 0 - getD l n 0) (drop (getD l n 0) s) ∷ named s (drop (n + 1) l)
+unfolding named
+named-next s l n h = rw (drop-cons l n 0 (omega arith), add-one, drop-cons l (suc n) 0 (omega arith)) refl
 
-  pub place-more : e < length s → same t (take (e - i) (drop i s)) ≡ false
-      → place (split (eqb 32) (drop i s)) t ≡ place (split (eqb 32) (drop (e + 1) s)) t + 1
+module _ (s l t : List ℕ) (n : ℕ) where
+  pub place-here : n + 1 < length l → same t (take (getD l (n + 1) 0 - getD l n 0) (drop (getD l n 0) s)) ≡ true → place (named s (drop n l)) t ≡ 0
   unfolding place
-  place-more h p = rw (split-more 32 s i e here h, p) (simp add-one)
+  place-here h p = rw (named-next s l n h, p)
+
+  pub place-more : n + 1 < length l → same t (take (getD l (n + 1) 0 - getD l n 0) (drop (getD l n 0) s)) ≡ false
+      → place (named s (drop n l)) t ≡ place (named s (drop (n + 1) l)) t + 1
+  unfolding place
+  place-more h p = rw (named-next s l n h, p) (simp add-one)
+
+  pub place-none : length l ≤ n + 1 → place (named s (drop n l)) t ≡ 0
+  unfolding place named
+  place-none h = by-rest (drop n l) (rw length-drop (omega arith)) where
+    by-rest : (r : List ℕ) → length r ≤ 1 → place (named s r) t ≡ 0
+    by-rest [] g = refl
+    by-rest (a ∷ []) g = refl
+    by-rest (a ∷ b ∷ r) g = absurd (omega arith)
+
+pub rising-at : (m : ℕ) (l : List ℕ) → rising m l ≡ true → (n : ℕ) → n + 1 < length l → (getD l n 0 ≤ getD l (n + 1) 0) × (getD l (n + 1) 0 ≤ m)
+unfolding rising
+rising-at m [] q n h = absurd (omega arith)
+rising-at m (a ∷ []) q n h = absurd (omega arith)
+rising-at m (a ∷ b ∷ l) q zero h = let p = and-both (leb a b && leb b m) (rising m (b ∷ l)) q in let r = and-both (leb a b) (leb b m) (p .0) in (leb-true a b (r .0), leb-true b m (r .1))
+rising-at m (a ∷ b ∷ l) q (suc n) h = let z : suc n + 1 ≡ suc (n + 1) = omega arith in rw z (rising-at m (b ∷ l) (and-both (leb a b && leb b m) (rising m (b ∷ l)) q .1) n (omega arith))
 
 -- hexadecimal digits
 

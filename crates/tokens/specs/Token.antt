@@ -1,9 +1,10 @@
 -- Tokens of a text: what the code finds between separators. Assumes nothing: these are definitions.
 use Prim.Native.Nat.{ℕ, suc, _-_, min}
-use mathlib.Core.Bool.{cond}
+use mathlib.Core.Bool.{Bool, true, cond, _&&_}
 use mathlib.Core.Option.{Option, some, none}
 use mathlib.Core.List.{List, [], _∷_}
-use lib.Dec.{eqb}
+use lib.Dec.{eqb, leb}
+use lib.ListN.{take, drop}
 use Rattle.text.specs.Split.{same}
 use Rattle.plan.specs.Layout.{digits, decimal-from, beyond, digit, hex-digit, hex-digits, hex-from}
 use Rattle.tokens.specs.declared.Number.{Number}
@@ -18,6 +19,18 @@ until b (c ∷ s) = let more = suc (until b s) in cond (eqb b c) 0 more
 unfoldable pub place : List (List ℕ) → List ℕ → ℕ
 place [] t = 0
 place (n ∷ ns) t = let more = suc (place ns t) in cond (same t n) 0 more
+
+-- the names of a text, each from its start up to the next one
+unfoldable pub named : List ℕ → List ℕ → List (List ℕ)
+named s [] = []
+named s (a ∷ []) = []
+named s (a ∷ b ∷ starts) = take (b - a) (drop a s) ∷ named s (b ∷ starts)
+
+-- starts that rise, up to n
+unfoldable pub rising : ℕ → List ℕ → Bool
+rising n [] = true
+rising n (a ∷ []) = true
+rising n (a ∷ b ∷ starts) = leb a b && leb b n && rising n (b ∷ starts)
 
 -- a run of digits, after digits that say n
 unfoldable pub numeral : ℕ → List ℕ → Option ℕ

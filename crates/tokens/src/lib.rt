@@ -1,12 +1,13 @@
 // Tokens of a text: parts between separators, names, numbers.
 ghost use mathlib.Core.Path.{_≡_};
+ghost use mathlib.Core.Bool.{true, false, _||_};
 ghost use Prim.Native.Nat.{_+_, _-_, _*_, _≤_, _<_, min};
 ghost use mathlib.Core.List.{[]};
 ghost use lib.Dec.{eqb};
 ghost use lib.ListN.{length, drop, getD};
 ghost use Rattle.text.specs.Split.{split, same};
 ghost use Rattle.plan.specs.Layout.{number, beyond};
-ghost use Rattle.tokens.specs.Token.{until, place, numeral, hex-value, hex-numeral, told};
+ghost use Rattle.tokens.specs.Token.{until, place, named, rising, numeral, hex-value, hex-numeral, told};
 
 // What a text says as a number.
 pub enum Number {
@@ -27,6 +28,41 @@ pub fn find(s: &[u8], from: usize, b: u8) -> usize
         i += 1;
     }
     i
+}
+
+fn either(a: bool, b: bool) -> bool
+    ensures { λ r. ⌜ r ≡ (a || b) ⌝ }
+{
+    if a { true } else { b }
+}
+
+// Whether b is one of the 16 bytes of s from i on. All are looked at, since a loop without a way out takes them at a time.
+fn is_near(s: &[u8], i: usize, b: u8) -> bool
+    requires { ⌜ i + 16 ≤ length (now s) ⌝ }
+    ensures { λ r. ⌜ (r ≡ false → until b (drop i (now (s .entry))) ≡ 16 + until b (drop (i + 16) (now (s .entry)))) ⌝ }
+{
+    let mut found = false;
+    let mut k = 0;
+    while k < 16 {
+        found = either(found, s[i + k] == b);
+        k += 1;
+    }
+    found
+}
+
+// What `find` finds, where it may be far.
+pub fn find_far(s: &[u8], from: usize, b: u8) -> usize
+    requires { ⌜ from ≤ length (now s) ⌝ }
+    ensures { λ r. ⌜ (r ≡ from + until b (drop from (now (s .entry)))) × (r ≤ length (now (s .entry))) ⌝ }
+{
+    let mut i = from;
+    while 16 <= s.len() - i {
+        if is_near(s, i, b) {
+            return find(s, i, b);
+        }
+        i += 16;
+    }
+    find(s, i, b)
 }
 
 // Whether two texts are the same.
@@ -79,23 +115,29 @@ pub fn part(s: &[u8], b: u8, k: usize) -> &[u8]
     &s[i..e]
 }
 
-// The place of t among names with one space between them, or their count where it is none of them.
-pub fn find_name(names: &[u8], t: &[u8]) -> usize
-    ensures { λ r. ⌜ r ≡ place (split (eqb 32) (now (names .entry))) (now (t .entry)) ⌝ }
+// A place as an index.
+fn index_of(x: u32) -> usize
+    ensures { λ r. ⌜ r ≡ x ⌝ }
 {
-    let mut i = 0;
+    x as usize
+}
+
+// The place of t among names that stand one after the other, each from its start up to the next one, or their count where it is
+// none of them. The starts are given, so that a name of another length costs no look at its bytes.
+pub fn find_name(names: &[u8], starts: &[u32], t: &[u8]) -> usize
+    requires { ⌜ rising (length (now names)) (now starts) ≡ true ⌝ }
+    ensures { λ r. ⌜ r ≡ place (named (now (names .entry)) (now (starts .entry))) (now (t .entry)) ⌝ }
+{
     let mut n = 0;
-    loop {
-        let e = find(names, i, 32);
-        if equal(t, &names[i..e]) {
+    while n + 1 < starts.len() {
+        let from = index_of(starts[n]);
+        let to = index_of(starts[n + 1]);
+        if equal(t, &names[from..to]) {
             return n;
         }
         n += 1;
-        if e == names.len() {
-            return n;
-        }
-        i = e + 1;
     }
+    n
 }
 
 // A byte as a wider number.

@@ -1,16 +1,16 @@
-use mathlib.Core.Path.{_≡_, sym, _∙_}
+use mathlib.Core.Path.{_≡_, refl, sym, ap, _∙_}
 use native.Mathlib.Omega.{arith}
 use borrow.Author.Needs.{needs}
-use borrow.Author.Tests.{not-true, not-false}
+use borrow.Author.Tests.{eq-eqb, ne-eqb, lt-ltb, le-ltb, not-true, not-false}
 use Prim.Native.Nat.{ℕ, _+_, _-_, _*_, _≤_, _<_}
-use mathlib.Core.Bool.{false, cond}
+use mathlib.Core.Bool.{Bool, true, false, cond}
 use mathlib.Core.List.{List}
 use lib.Dec.{eqb}
 use lib.ListN.{length, take, drop, length-set, length-take, length-drop}
 use Rattle.text.specs.Split.{split}
 use Rattle.layout.specs.Scan.{scan, add, Fill}
 use Rattle.layout.specs.declared.Filled.{Filled}
-use Rattle.layout.specs.declared.Filled.the-variants.{Bad}
+use Rattle.layout.specs.declared.Filled.the-variants.{To, Bad}
 use Rattle.layout.proofs.Laws.{scan-empty, scan-row, scan-first, scan-other, scan-inside, end-text, end-inside, end-kind, end-here, fill-none, fill-close, fill-add, row-none, row-some, first-long}
 use Rattle.layout.proofs.fill.Statement.{statement}
 use Rattle.layout.proofs.fill.Tie as tie
@@ -19,7 +19,7 @@ use Rattle.layout.proofs.fill.Lts as lts
 use Rattle.layout.proofs.is_names.Reads as is-names-reads
 use Rattle.layout.proofs.sort_at.Reads as sort-at-reads
 use Rattle.rows.proofs.put_row.Reads as put-row-reads
-use Rattle.tokens.proofs.find.Reads as find-reads
+use Rattle.tokens.proofs.find_far.Reads as find-far-reads
 
 abbrev Inv-loop : tie.InvT-loop
 Inv-loop s words₀ rows₀ tables₀ at₀ k₀ n₀ j₀ inside₀ words rows tables at k n j inside = (at ≤ length s) × (k ≤ at) × (2 * n ≤ at) × (4 * j + cond inside 4 0 ≤ at) × (length words ≡ length words₀) × (length rows ≡ length rows₀) × (length tables ≡ length tables₀)
@@ -34,8 +34,8 @@ loop-holds : tie.Need-loop-holds Inv-loop μ-loop
 loop-holds c = search needs
 
 -- src/lib.rt:74:13
-find-requires : tie.Need-find-requires Inv-loop μ-loop
-find-requires c κs = search needs
+find-far-requires : tie.Need-find-far-requires Inv-loop μ-loop
+find-far-requires c κs = search needs
 
 -- src/lib.rt:75:13
 sort-at-requires : tie.Need-sort-at-requires Inv-loop μ-loop
@@ -56,7 +56,7 @@ same-length-3 c = search needs
 -- src/lib.rt:78:17
 returns : tie.Need-returns Inv-loop μ-loop
 unfolding Fill
-returns c = (c .before .before .before .before .loop .inv .7 Bad _ _ _ (rw (end-text _ _ _ _ (c .before .before .before .find .ensures .0) (c .before .if1 .taken) _ (c .if2 .taken)) tt), tt)
+returns c = (c .before .before .before .before .loop .inv .7 Bad _ _ _ (rw (end-text _ _ _ _ (c .before .before .before .find-far .ensures .0) (c .before .if1 .taken) _ (c .if2 .taken)) tt), tt)
 
 -- src/lib.rt:81:17
 same-length-4 : tie.Need-same-length-4 Inv-loop μ-loop
@@ -73,7 +73,7 @@ same-length-6 c = search needs
 -- src/lib.rt:81:17
 returns-2 : tie.Need-returns-2 Inv-loop μ-loop
 unfolding Fill
-returns-2 c = (c .before .before .before .before .before .loop .inv .7 Bad _ _ _ (rw (c .if3 .taken, end-inside _ _ _ _ (c .before .before .before .before .find .ensures .0) (c .before .before .if1 .taken)) tt), tt)
+returns-2 c = (c .before .before .before .before .before .loop .inv .7 Bad _ _ _ (rw (c .if3 .taken, end-inside _ _ _ _ (c .before .before .before .before .find-far .ensures .0) (c .before .before .if1 .taken)) tt), tt)
 
 -- src/lib.rt:84:17
 same-length-7 : tie.Need-same-length-7 Inv-loop μ-loop
@@ -90,7 +90,7 @@ same-length-9 c = search needs
 -- src/lib.rt:84:17
 returns-3 : tie.Need-returns-3 Inv-loop μ-loop
 unfolding Fill
-returns-3 c = (c .before .before .before .before .before .before .loop .inv .7 Bad _ _ _ (rw (end-kind _ _ _ _ (c .before .before .before .before .before .find .ensures .0) (c .before .before .before .if1 .taken) _ (c .before .if3 .left) (λ g. c .if4 .taken (c .before .before .before .before .sort-at .ensures ∙ g))) tt), tt)
+returns-3 c = (c .before .before .before .before .before .before .loop .inv .7 Bad _ _ _ (rw (end-kind _ _ _ _ (c .before .before .before .before .before .find-far .ensures .0) (c .before .before .before .if1 .taken) _ (c .before .if3 .left) (λ g. c .if4 .taken (c .before .before .before .before .sort-at .ensures ∙ g))) tt), tt)
 
 -- src/lib.rt:86:13
 same-length-10 : tie.Need-same-length-10 Inv-loop μ-loop
@@ -106,7 +106,7 @@ same-length-12 c = search needs
 
 -- src/lib.rt:86:13
 returns-4 : tie.Need-returns-4 Inv-loop μ-loop
-returns-4 c = (c .before .before .before .before .before .before .loop .inv .7 _ _ _ _ (rw (c .before .if3 .left, end-here _ _ _ _ (c .before .before .before .before .before .find .ensures .0) (c .before .before .before .if1 .taken) (c .before .before .if2 .left) (sym (c .before .before .before .before .sort-at .ensures) ∙ c .if4 .left)) (fill-none _ _ _ _ _ _)), (omega arith, omega arith, omega arith, sym (c .before .before .before .before .sort-at .ensures) ∙ c .if4 .left))
+returns-4 c = (c .before .before .before .before .before .before .loop .inv .7 _ _ _ _ (rw (c .before .if3 .left, end-here _ _ _ _ (c .before .before .before .before .before .find-far .ensures .0) (c .before .before .before .if1 .taken) (c .before .before .if2 .left) (sym (c .before .before .before .before .sort-at .ensures) ∙ c .if4 .left)) (fill-none _ _ _ _ _ _)), (omega arith, omega arith, omega arith, sym (c .before .before .before .before .sort-at .ensures) ∙ c .if4 .left))
 
 -- src/lib.rt:88:20
 add-next : tie.Need-add-next Inv-loop μ-loop
@@ -134,9 +134,9 @@ loop-less c = search needs
 
 -- src/lib.rt:73:5
 loop-again : tie.Need-loop-again Inv-loop μ-loop
-loop-again c = let h : c .before .before .before .before .find .result < length (c .before .before .before .before .before .before .before .before .before .before .args .s .now) = omega arith in
+loop-again c = let h : c .before .before .before .before .find-far .result < length (c .before .before .before .before .before .before .before .before .before .before .args .s .now) = omega arith in
     let i3 = rw (c .before .if5 .taken) at (c .before .before .before .before .before .loop .inv .3) in
-    (omega arith, omega arith, omega arith, omega arith, c .before .before .before .before .before .loop .inv .4, c .before .before .before .before .before .loop .inv .5, simp length-set (omega arith), λ r o x m t. c .before .before .before .before .before .loop .inv .7 r o x m (rw (c .before .if5 .taken, scan-empty _ _ _ _ (c .before .before .before .before .find .ensures .0) h (c .if6 .taken)) (fill-close _ _ _ _ _ _ _ _ _ _ _ (omega arith) t)))
+    (omega arith, omega arith, omega arith, omega arith, c .before .before .before .before .before .loop .inv .4, c .before .before .before .before .before .loop .inv .5, simp length-set (omega arith), λ r o x m t. c .before .before .before .before .before .loop .inv .7 r o x m (rw (c .before .if5 .taken, scan-empty _ _ _ _ (c .before .before .before .before .find-far .ensures .0) h (c .if6 .taken)) (fill-close _ _ _ _ _ _ _ _ _ _ _ (omega arith) t)))
 
 -- src/lib.rt:96:49
 sub-put-row : tie.Need-sub-put-row Inv-loop μ-loop
@@ -177,13 +177,13 @@ same-length-15 c = search needs
 -- src/lib.rt:98:21
 returns-5 : tie.Need-returns-5 Inv-loop μ-loop
 unfolding Fill add
-returns-5 c = let d = c .before .before .before .before .before .before .before .before .before .before .before .find .result - c .before .before .before .before .before .before .before .before .before .before .before .before .loop .at in
+returns-5 c = let d = c .before .before .before .before .before .before .before .before .before .before .before .find-far .result - c .before .before .before .before .before .before .before .before .before .before .before .before .loop .at in
     let len : length (take d (drop (c .before .before .before .before .before .before .before .before .before .before .before .before .loop .at) (c .before .before .before .before .before .before .before .before .before .before .before .before .before .before .before .before .before .args .s .now))) ≡ d = rw (length-take, length-drop) (omega arith) in
     let byte : 0 < d = omega arith in
     let room : c .before .before .before .before .before .before .before .before .before .before .before .before .loop .k + (d + 1) ≤ length (c .before .before .before .before .before .before .before .before .before .before .before .before .before .before .before .before .before .args .words .now) = omega arith in
-    let h : c .before .before .before .before .before .before .before .before .before .before .before .find .result < length (c .before .before .before .before .before .before .before .before .before .before .before .before .before .before .before .before .before .args .s .now) = omega arith in
+    let h : c .before .before .before .before .before .before .before .before .before .before .before .find-far .result < length (c .before .before .before .before .before .before .before .before .before .before .before .before .before .before .before .before .before .args .s .now) = omega arith in
     let b = row-none _ _ _ _ _ _ _ d len byte _ (c .before .before .before .before .before .before .before .before .before .before .before .before .loop .inv .4) room (c .before .before .before .before .put-row .ensures) (c .enum-told .given .1) in
-    (c .before .before .before .before .before .before .before .before .before .before .before .before .loop .inv .7 Bad _ _ _ (rw (c .before .before .before .before .before .before .before .before .if5 .taken, scan-row _ _ _ _ (c .before .before .before .before .before .before .before .before .before .before .before .find .ensures .0) h (c .before .before .before .before .before .before .before .if6 .left), ← c .before .before .before .before .before .before .before .before .before .before .sort-at .ensures, b) tt), tt)
+    (c .before .before .before .before .before .before .before .before .before .before .before .before .loop .inv .7 Bad _ _ _ (rw (c .before .before .before .before .before .before .before .before .if5 .taken, scan-row _ _ _ _ (c .before .before .before .before .before .before .before .before .before .before .before .find-far .ensures .0) h (c .before .before .before .before .before .before .before .if6 .left), ← c .before .before .before .before .before .before .before .before .before .before .sort-at .ensures, b) tt), tt)
 
 -- src/lib.rt:100:17
 add-n : tie.Need-add-n Inv-loop μ-loop
@@ -191,11 +191,11 @@ add-n c = search needs
 
 -- src/lib.rt:101:27
 cast-rows : tie.Need-cast-rows Inv-loop μ-loop
-cast-rows c = let d = c .before .before .before .before .before .before .before .before .before .before .before .before .find .result - c .before .before .before .before .before .before .before .before .before .before .before .before .before .loop .at in
+cast-rows c = let d = c .before .before .before .before .before .before .before .before .before .before .before .before .find-far .result - c .before .before .before .before .before .before .before .before .before .before .before .before .before .loop .at in
     let len : length (take d (drop (c .before .before .before .before .before .before .before .before .before .before .before .before .before .loop .at) (c .before .before .before .before .before .before .before .before .before .before .before .before .before .before .before .before .before .before .args .s .now))) ≡ d = rw (length-take, length-drop) (omega arith) in
     let byte : 0 < d = omega arith in
     let room : c .before .before .before .before .before .before .before .before .before .before .before .before .before .loop .k + (d + 1) ≤ length (c .before .before .before .before .before .before .before .before .before .before .before .before .before .before .before .before .before .before .args .words .now) = omega arith in
-    let h : c .before .before .before .before .before .before .before .before .before .before .before .before .find .result < length (c .before .before .before .before .before .before .before .before .before .before .before .before .before .before .before .before .before .before .args .s .now) = omega arith in
+    let h : c .before .before .before .before .before .before .before .before .before .before .before .before .find-far .result < length (c .before .before .before .before .before .before .before .before .before .before .before .before .before .before .before .before .before .before .args .s .now) = omega arith in
     let b = row-some _ _ _ _ _ _ _ d len byte _ (c .before .before .before .before .before .before .before .before .before .before .before .before .before .loop .inv .4) room (c .before .before .before .before .before .put-row .ensures) _ (c .before .r .given .1) in
     omega (arith, b .1)
 
@@ -213,14 +213,14 @@ loop-less-2 c = search needs
 
 -- src/lib.rt:73:5
 loop-again-2 : tie.Need-loop-again-2 Inv-loop μ-loop
-loop-again-2 c = let d = c .before .before .before .before .before .before .before .before .before .before .before .before .find .result - c .before .before .before .before .before .before .before .before .before .before .before .before .before .loop .at in
+loop-again-2 c = let d = c .before .before .before .before .before .before .before .before .before .before .before .before .find-far .result - c .before .before .before .before .before .before .before .before .before .before .before .before .before .loop .at in
     let len : length (take d (drop (c .before .before .before .before .before .before .before .before .before .before .before .before .before .loop .at) (c .before .before .before .before .before .before .before .before .before .before .before .before .before .before .before .before .before .before .args .s .now))) ≡ d = rw (length-take, length-drop) (omega arith) in
     let byte : 0 < d = omega arith in
     let room : c .before .before .before .before .before .before .before .before .before .before .before .before .before .loop .k + (d + 1) ≤ length (c .before .before .before .before .before .before .before .before .before .before .before .before .before .before .before .before .before .before .args .words .now) = omega arith in
-    let h : c .before .before .before .before .before .before .before .before .before .before .before .before .find .result < length (c .before .before .before .before .before .before .before .before .before .before .before .before .before .before .before .before .before .before .args .s .now) = omega arith in
+    let h : c .before .before .before .before .before .before .before .before .before .before .before .before .find-far .result < length (c .before .before .before .before .before .before .before .before .before .before .before .before .before .before .before .before .before .before .args .s .now) = omega arith in
     let i3 = rw (c .before .before .before .before .before .before .before .before .before .if5 .taken) at (c .before .before .before .before .before .before .before .before .before .before .before .before .before .loop .inv .3) in
     let b = row-some _ _ _ _ _ _ _ d len byte _ (c .before .before .before .before .before .before .before .before .before .before .before .before .before .loop .inv .4) room (c .before .before .before .before .before .put-row .ensures) _ (c .before .r .given .1) in
-    (omega arith, omega (arith, b .1), omega arith, rw (c .before .before .before .before .before .before .before .before .before .if5 .taken) (omega arith), c .before .before .before .before .before .put-row .ensures .size ∙ c .before .before .before .before .before .before .before .before .before .before .before .before .before .loop .inv .4, simp length-set (omega arith), c .before .before .before .before .before .before .before .before .before .before .before .before .before .loop .inv .6, λ r o x m t. c .before .before .before .before .before .before .before .before .before .before .before .before .before .loop .inv .7 r o x m (rw (c .before .before .before .before .before .before .before .before .before .if5 .taken, scan-row _ _ _ _ (c .before .before .before .before .before .before .before .before .before .before .before .before .find .ensures .0) h (c .before .before .before .before .before .before .before .before .if6 .left), ← c .before .before .before .before .before .before .before .before .before .before .before .sort-at .ensures) (fill-add _ _ _ _ _ _ _ _ _ _ _ _ _ _ (scan-inside _ _ _) (b .0) (omega arith) (rw (c .before .before .before .before .before .before .before .before .before .if5 .taken) at t))))
+    (omega arith, omega (arith, b .1), omega arith, rw (c .before .before .before .before .before .before .before .before .before .if5 .taken) (omega arith), c .before .before .before .before .before .put-row .ensures .size ∙ c .before .before .before .before .before .before .before .before .before .before .before .before .before .loop .inv .4, simp length-set (omega arith), c .before .before .before .before .before .before .before .before .before .before .before .before .before .loop .inv .6, λ r o x m t. c .before .before .before .before .before .before .before .before .before .before .before .before .before .loop .inv .7 r o x m (rw (c .before .before .before .before .before .before .before .before .before .if5 .taken, scan-row _ _ _ _ (c .before .before .before .before .before .before .before .before .before .before .before .before .find-far .ensures .0) h (c .before .before .before .before .before .before .before .before .if6 .left), ← c .before .before .before .before .before .before .before .before .before .before .before .sort-at .ensures) (fill-add _ _ _ _ _ _ _ _ _ _ _ _ _ _ (scan-inside _ _ _) (b .0) (omega arith) (rw (c .before .before .before .before .before .before .before .before .before .if5 .taken) at t))))
 
 -- src/lib.rt:106:32
 sub-is-names : tie.Need-sub-is-names Inv-loop μ-loop
@@ -253,8 +253,8 @@ same-length-18 c = search needs
 -- src/lib.rt:107:17
 returns-6 : tie.Need-returns-6 Inv-loop μ-loop
 unfolding Fill
-returns-6 c = let h : c .before .before .before .before .before .before .find .result < length (c .before .before .before .before .before .before .before .before .before .before .before .before .args .s .now) = omega arith in
-    (c .before .before .before .before .before .before .before .loop .inv .7 Bad _ _ _ (rw (c .before .before .before .if5 .left, scan-other _ _ _ (c .before .before .before .before .before .before .before .loop .j) (c .before .before .before .before .before .before .find .ensures .0) h (rw (c .before .before .before .before .before .sort-at .ensures) at (sym (c .before .is-names .ensures) ∙ not-true _ (c .if7 .taken)))) tt), tt)
+returns-6 c = let h : c .before .before .before .before .before .before .find-far .result < length (c .before .before .before .before .before .before .before .before .before .before .before .before .args .s .now) = omega arith in
+    (c .before .before .before .before .before .before .before .loop .inv .7 Bad _ _ _ (rw (c .before .before .before .if5 .left, scan-other _ _ _ (c .before .before .before .before .before .before .before .loop .j) (c .before .before .before .before .before .before .find-far .ensures .0) h (rw (c .before .before .before .before .before .sort-at .ensures) at (sym (c .before .is-names .ensures) ∙ not-true _ (c .if7 .taken)))) tt), tt)
 
 -- src/lib.rt:73:5
 loop-less-3 : tie.Need-loop-less-3 Inv-loop μ-loop
@@ -262,12 +262,12 @@ loop-less-3 c = search needs
 
 -- src/lib.rt:73:5
 loop-again-3 : tie.Need-loop-again-3 Inv-loop μ-loop
-loop-again-3 c = let h : c .before .before .before .before .before .before .find .result < length (c .before .before .before .before .before .before .before .before .before .before .before .before .args .s .now) = omega arith in
+loop-again-3 c = let h : c .before .before .before .before .before .before .find-far .result < length (c .before .before .before .before .before .before .before .before .before .before .before .before .args .s .now) = omega arith in
     let i3 = rw (c .before .before .before .if5 .left) at (c .before .before .before .before .before .before .before .loop .inv .3) in
-    let d = c .before .before .before .before .before .before .find .result - c .before .before .before .before .before .before .before .loop .at in
+    let d = c .before .before .before .before .before .before .find-far .result - c .before .before .before .before .before .before .before .loop .at in
     let len : length (take d (drop (c .before .before .before .before .before .before .before .loop .at) (c .before .before .before .before .before .before .before .before .before .before .before .before .args .s .now))) ≡ d = rw (length-take, length-drop) (omega arith) in
     let long = first-long _ _ (sym (c .before .is-names .ensures) ∙ not-false _ (c .if7 .left)) in
-    (omega arith, omega arith, omega arith, omega (arith, long), c .before .before .before .before .before .before .before .loop .inv .4, c .before .before .before .before .before .before .before .loop .inv .5, c .before .before .before .before .before .before .before .loop .inv .6, λ r o x m t. c .before .before .before .before .before .before .before .loop .inv .7 r o x m (rw (c .before .before .before .if5 .left, scan-first _ _ _ (c .before .before .before .before .before .before .before .loop .j) (c .before .before .before .before .before .before .find .ensures .0) h (rw (c .before .before .before .before .before .sort-at .ensures) at (sym (c .before .is-names .ensures) ∙ not-false _ (c .if7 .left)))) t))
+    (omega arith, omega arith, omega arith, omega (arith, long), c .before .before .before .before .before .before .before .loop .inv .4, c .before .before .before .before .before .before .before .loop .inv .5, c .before .before .before .before .before .before .before .loop .inv .6, λ r o x m t. c .before .before .before .before .before .before .before .loop .inv .7 r o x m (rw (c .before .before .before .if5 .left, scan-first _ _ _ (c .before .before .before .before .before .before .before .loop .j) (c .before .before .before .before .before .before .find-far .ensures .0) h (rw (c .before .before .before .before .before .sort-at .ensures) at (sym (c .before .is-names .ensures) ∙ not-false _ (c .if7 .left)))) t))
 
 pub fill-spec : {M : Type 1} → statement M
 fill-spec =
@@ -276,7 +276,7 @@ fill-spec =
     Inv-loop
     μ-loop
     loop-holds
-    find-requires
+    find-far-requires
     sort-at-requires
     same-length
     same-length-2

@@ -1,56 +1,56 @@
-use Prim.Native.Nat.{_-_, _≤_}
-use mathlib.Core.Path.{_≡_, sym, _∙_}
+use Prim.Native.Nat.{ℕ, _+_, _-_, _≤_, _<_}
+use mathlib.Core.Bool.{_&&_}
+use mathlib.Core.Path.{_≡_, refl, sym, ap, _∙_}
 use native.Mathlib.Omega.{arith}
 use borrow.Author.Needs.{needs}
-use borrow.Author.Tests.{not-true, not-false}
 use lib.ListN.{length, drop}
 use Rattle.plan.specs.Refusal.{every, allowed, bytes-allowed}
-use Rattle.reader.proofs.Laws.{every-end, every-not, every-next}
+use Rattle.reader.proofs.Laws.{every-end, every-next}
 use Rattle.reader.proofs.all_allowed.Statement.{statement}
 use Rattle.reader.proofs.all_allowed.Tie as tie
 use Rattle.reader.proofs.all_allowed.Reads as reads
 use Rattle.reader.proofs.all_allowed.Lts as lts
+use Rattle.reader.proofs.both.Reads as both-reads
 use Rattle.reader.proofs.is_allowed.Reads as is-allowed-reads
 
 abbrev Inv-loop : tie.InvT-loop
-Inv-loop s i₀ i = (i ≤ length s) × (every allowed (drop i s) ≡ every allowed s)
+Inv-loop s good₀ i₀ good i = (i ≤ length s) × ((good && every allowed (drop i s)) ≡ every allowed s)
 
 abbrev μ-loop : tie.MeasureT-loop
-μ-loop s i₀ i = length s - i
+μ-loop s good₀ i₀ good i = length s - i
 
--- src/lib.rt:33:5
+-- src/lib.rt:41:5
 loop-holds : tie.Need-loop-holds Inv-loop μ-loop
-loop-holds c = search needs
+loop-holds c = (omega arith, refl)
 
--- src/lib.rt:34:24
+-- src/lib.rt:42:38
 shared-slice-read-is-allowed : tie.Need-shared-slice-read-is-allowed Inv-loop μ-loop
 shared-slice-read-is-allowed c = search needs
 
--- src/lib.rt:34:13
+-- src/lib.rt:42:27
 is-allowed-requires : tie.Need-is-allowed-requires Inv-loop μ-loop
 is-allowed-requires c κs = search needs
 
--- src/lib.rt:35:13
-returns : tie.Need-returns Inv-loop μ-loop
-unfolding bytes-allowed
-returns c = sym (every-not _ _ (c .before .before .before .loop-test .taken) (sym (c .before .is-allowed .ensures) ∙ not-true _ (c .if1 .taken))) ∙ c .before .before .before .before .loop .inv .1
+-- src/lib.rt:42:9
+both-requires : tie.Need-both-requires Inv-loop μ-loop
+both-requires c κs = search needs
 
--- src/lib.rt:37:9
+-- src/lib.rt:43:9
 add-i : tie.Need-add-i Inv-loop μ-loop
 add-i c = search needs
 
--- src/lib.rt:33:5
+-- src/lib.rt:41:5
 loop-less : tie.Need-loop-less Inv-loop μ-loop
 loop-less c = search needs
 
--- src/lib.rt:33:5
+-- src/lib.rt:41:5
 loop-again : tie.Need-loop-again Inv-loop μ-loop
-loop-again c = (omega arith, sym (every-next _ _ (c .before .before .before .loop-test .taken) (sym (c .before .is-allowed .ensures) ∙ not-false _ (c .if1 .left))) ∙ c .before .before .before .before .loop .inv .1)
+loop-again c = (omega arith, rw (c .both .ensures, c .before .is-allowed .ensures) (every-next (c .before .before .before .before .before .before .args .s .now) (c .before .before .before .before .loop .good) (c .before .before .before .before .loop .i) (c .before .before .before .loop-test .taken)) ∙ c .before .before .before .before .loop .inv .1)
 
--- src/lib.rt:29:1
-returns-2 : tie.Need-returns-2 Inv-loop μ-loop
+-- src/lib.rt:36:1
+returns : tie.Need-returns Inv-loop μ-loop
 unfolding bytes-allowed
-returns-2 c = sym (every-end _ _ (c .loop-test .left)) ∙ c .before .loop .inv .1
+returns c = sym (every-end (c .before .before .before .args .s .now) (c .before .loop .good) (c .before .loop .i) (c .loop-test .left)) ∙ c .before .loop .inv .1
 
 pub all-allowed-spec : {M : Type 1} → statement M
 all-allowed-spec =
@@ -61,8 +61,8 @@ all-allowed-spec =
     loop-holds
     shared-slice-read-is-allowed
     is-allowed-requires
-    returns
+    both-requires
     add-i
     loop-less
     loop-again
-    returns-2)
+    returns)

@@ -1,7 +1,10 @@
-use mathlib.Core.Path.{ap, _∙_}
-use Rattle.tokens.specs.Token.{place}
+use mathlib.Core.Path.{_≡_, refl, sym, ap, _∙_}
+use native.Mathlib.Omega.{arith}
+use borrow.Author.Tests.{eq-eqb, ne-eqb}
+use Rattle.tokens.specs.Token.{place, rising}
+use Rattle.values.specs.Words.{said, _⧺_}
 use Rattle.values.proofs.Laws.{_⟫_}
-use Rattle.rows.proofs.Laws.{row-laid}
+use Rattle.rows.proofs.Laws.{row-laid, type-names}
 use Rattle.rows.specs.Row.{type-words, type-kinds}
 use borrow.Author.Needs.{needs}
 use Rattle.rows.proofs.put_type.Statement.{statement}
@@ -16,84 +19,90 @@ use Rattle.tokens.proofs.part.Reads as part-reads
 use Rattle.values.proofs.put_cell.Reads as put-cell-reads
 use Rattle.values.proofs.put_kind.Reads as put-kind-reads
 
--- src/lib.rt:63:31
+-- src/lib.rt:71:31
 slice-aggregate-find-name : tie.Need-slice-aggregate-find-name
 slice-aggregate-find-name c = search needs
 
--- src/lib.rt:63:62
+-- src/lib.rt:71:58
+slice-aggregate-find-name-2 : tie.Need-slice-aggregate-find-name-2
+slice-aggregate-find-name-2 c = search needs
+
+-- src/lib.rt:71:71
 part-requires : tie.Need-part-requires
 part-requires c κs = search needs
 
--- src/lib.rt:63:9
+-- src/lib.rt:71:9
 find-name-requires : tie.Need-find-name-requires
-find-name-requires c κs = search needs
+unfolding rising
+find-name-requires c κs = refl
 
--- src/lib.rt:64:24
+-- src/lib.rt:72:24
 slice-aggregate-sort-of : tie.Need-slice-aggregate-sort-of
 slice-aggregate-sort-of c = search needs
 
--- src/lib.rt:64:9
+-- src/lib.rt:72:9
 sort-of-requires : tie.Need-sort-of-requires
 sort-of-requires c κs = search needs
 
--- src/lib.rt:65:9
+-- src/lib.rt:73:9
 spaced-requires : tie.Need-spaced-requires
 spaced-requires c κs = search needs
 
--- src/lib.rt:66:9
+-- src/lib.rt:74:9
 put-kind-requires : tie.Need-put-kind-requires
 put-kind-requires c κs = search needs
 
--- src/lib.rt:67:9
+-- src/lib.rt:75:9
 put-cell-requires : tie.Need-put-cell-requires
 put-cell-requires c κs = search needs
 
--- src/lib.rt:68:9
+-- src/lib.rt:76:9
 put-cell-requires-2 : tie.Need-put-cell-requires-2
 put-cell-requires-2 c κs = search needs
 
--- src/lib.rt:69:9
+-- src/lib.rt:77:9
 put-cell-requires-3 : tie.Need-put-cell-requires-3
 put-cell-requires-3 c κs = search needs
 
--- src/lib.rt:70:39
+-- src/lib.rt:78:39
 slice-aggregate-sort-of-2 : tie.Need-slice-aggregate-sort-of-2
 slice-aggregate-sort-of-2 c = search needs
 
--- src/lib.rt:70:31
+-- src/lib.rt:78:31
 sort-of-requires-2 : tie.Need-sort-of-requires-2
 sort-of-requires-2 c κs = search needs
 
--- src/lib.rt:70:9
+-- src/lib.rt:78:9
 put-cell-requires-4 : tie.Need-put-cell-requires-4
 put-cell-requires-4 c κs = search needs
 
--- src/lib.rt:71:29
+-- src/lib.rt:79:29
 slice-aggregate-sort-of-3 : tie.Need-slice-aggregate-sort-of-3
 slice-aggregate-sort-of-3 c = search needs
 
--- src/lib.rt:71:21
+-- src/lib.rt:79:21
 sort-of-requires-3 : tie.Need-sort-of-requires-3
 sort-of-requires-3 c κs = search needs
 
--- src/lib.rt:71:5
+-- src/lib.rt:79:5
 put-list-requires : tie.Need-put-list-requires
 put-list-requires c κs = search needs
 
--- src/lib.rt:60:1
+-- src/lib.rt:68:1
 same-length : tie.Need-same-length
 same-length c = c .before .before .put-list .ensures .size ∙ c .before .before .before .before .before .before .before .before .put-cell4 .ensures .size ∙ c .before .before .before .before .before .before .before .before .before .before .before .before .before .before .put-cell3 .ensures .size ∙ c .before .before .before .before .before .before .before .before .before .before .before .before .before .before .before .before .before .before .put-cell2 .ensures .size ∙ c .before .before .before .before .before .before .before .before .before .before .before .before .before .before .before .before .before .before .before .before .before .before .put-cell .ensures .size ∙ c .before .before .before .before .before .before .before .before .before .before .before .before .before .before .before .before .before .before .before .before .before .before .before .before .before .before .put-kind .ensures .size
 
--- src/lib.rt:60:1
+-- src/lib.rt:68:1
 returns : tie.Need-returns
-unfolding type-words type-kinds
-returns c = row-laid 6 _ _ (c .before .before .before .before .before .before .before .before .before .before .before .before .before .before .before .before .before .before .before .before .before .before .before .before .before .before .before .before .spaced .ensures) (rw (← (c .before .before .before .before .before .before .before .before .before .before .before .before .before .before .before .before .before .before .before .before .before .before .before .before .before .before .before .before .before .before .before .find-name .ensures ∙ ap (place type-kinds) (c .before .before .before .before .before .before .before .before .before .before .before .before .before .before .before .before .before .before .before .before .before .before .before .before .before .before .before .before .before .before .before .before .part .ensures)), ← c .before .before .before .before .before .before .before .before .before .before .before .before .before .before .before .before .before .before .before .before .before .before .before .before .before .before .before .before .before .sort-of .ensures, ← c .before .before .before .before .before .before .before .before .before .before .sort-of2 .ensures, ← c .before .before .before .before .sort-of3 .ensures) (c .before .before .before .before .before .before .before .before .before .before .before .before .before .before .before .before .before .before .before .before .before .before .before .before .before .before .put-kind .ensures ⟫ c .before .before .before .before .before .before .before .before .before .before .before .before .before .before .before .before .before .before .before .before .before .before .put-cell .ensures ⟫ c .before .before .before .before .before .before .before .before .before .before .before .before .before .before .before .before .before .before .put-cell2 .ensures ⟫ c .before .before .before .before .before .before .before .before .before .before .before .before .before .before .put-cell3 .ensures ⟫ c .before .before .before .before .before .before .before .before .put-cell4 .ensures ⟫ c .before .before .put-list .ensures))
+unfolding type-words
+returns c = row-laid 6 _ _ (c .before .before .before .before .before .before .before .before .before .before .before .before .before .before .before .before .before .before .before .before .before .before .before .before .before .before .before .before .spaced .ensures) (rw (← (c .before .before .before .before .before .before .before .before .before .before .before .before .before .before .before .before .before .before .before .before .before .before .before .before .before .before .before .before .before .before .before .find-name .ensures ∙ ap (λ names. place names (c .before .before .before .before .before .before .before .before .before .before .before .before .before .before .before .before .before .before .before .before .before .before .before .before .before .before .before .before .before .before .before .before .part .result .now)) type-names ∙ ap (place type-kinds) (c .before .before .before .before .before .before .before .before .before .before .before .before .before .before .before .before .before .before .before .before .before .before .before .before .before .before .before .before .before .before .before .before .part .ensures)), ← c .before .before .before .before .before .before .before .before .before .before .before .before .before .before .before .before .before .before .before .before .before .before .before .before .before .before .before .before .before .sort-of .ensures, ← c .before .before .before .before .before .before .before .before .before .before .sort-of2 .ensures, ← c .before .before .before .before .sort-of3 .ensures) (c .before .before .before .before .before .before .before .before .before .before .before .before .before .before .before .before .before .before .before .before .before .before .before .before .before .before .put-kind .ensures ⟫ c .before .before .before .before .before .before .before .before .before .before .before .before .before .before .before .before .before .before .before .before .before .before .put-cell .ensures ⟫ c .before .before .before .before .before .before .before .before .before .before .before .before .before .before .before .before .before .before .put-cell2 .ensures ⟫ c .before .before .before .before .before .before .before .before .before .before .before .before .before .before .put-cell3 .ensures ⟫ c .before .before .before .before .before .before .before .before .put-cell4 .ensures ⟫ c .before .before .put-list .ensures))
 
 pub put-type-spec : {M : Type 1} → statement M
 put-type-spec =
     tie.close
     (tie.spec
     slice-aggregate-find-name
+    slice-aggregate-find-name-2
     part-requires
     find-name-requires
     slice-aggregate-sort-of
