@@ -1,13 +1,17 @@
-//! The proved reader as a C function beside the oracle's Rust reader, on plans in frames on standard input (oracle/README.md).
-//! `check` writes for each plan a frame as `oracle/run many check` does; `time` prints the time of both on the same plans, in the
-//! same run.
+//! The proved reader as a C function beside the oracle's Rust reader. `check` takes plans in frames on standard input
+//! (oracle/README.md) and writes for each a frame as `oracle/run many check` does; `time FILE..` prints the time of both on the
+//! same plans, in the same run.
 
+use std::collections::BTreeMap;
 use std::hint::black_box;
-use std::io::{Read, Write};
+use std::io::Write;
+use std::path::Path;
 use std::process::ExitCode;
 use std::time::Instant;
 
 use oracle::plan::Plan;
+
+mod frames;
 
 // A `&[u8]` passes as a pointer and a length.
 unsafe extern "C" {
@@ -23,20 +27,6 @@ fn theirs(plan: &[u8]) -> u32 {
     Plan::read(plan).err().map_or(0, u32::from)
 }
 
-fn frames() -> Vec<Vec<u8>> {
-    let mut input = Vec::new();
-    std::io::stdin().read_to_end(&mut input).expect("standard input");
-    let mut rest = input.as_slice();
-    let mut plans = Vec::new();
-    while !rest.is_empty() {
-        let end = rest.iter().position(|&b| b == b'\n').expect("a frame's length");
-        let length: usize = std::str::from_utf8(&rest[..end]).unwrap().parse().expect("a frame's length");
-        plans.push(rest[end + 1..end + 1 + length].to_vec());
-        rest = &rest[end + 1 + length..];
-    }
-    plans
-}
-
 fn check(plans: &[Vec<u8>]) {
     let mut out = std::io::stdout().lock();
     for plan in plans {
@@ -48,40 +38,66 @@ fn check(plans: &[Vec<u8>]) {
     }
 }
 
-/// The least time of several runs, in microseconds.
-fn time(plan: &[u8], read: fn(&[u8]) -> u32) -> f64 {
-    let mut least = f64::MAX;
-    for _ in 0..9 {
+/// The least time of many runs of each reader in turn, in microseconds.
+fn time(plan: &[u8]) -> (f64, f64) {
+    let one = |read: fn(&[u8]) -> u32| {
         let start = Instant::now();
         black_box(read(black_box(plan)));
-        least = least.min(start.elapsed().as_nanos() as f64 / 1000.0);
+        start.elapsed().as_nanos() as f64 / 1000.0
+    };
+    let mut least = (f64::MAX, f64::MAX);
+    for _ in 0..200 {
+        least = (least.0.min(one(ours)), least.1.min(one(theirs)));
     }
     least
 }
 
-fn time_all(plans: &[Vec<u8>]) -> bool {
+/// Names of the form `SHAPE.SIZE` belong to plans of one shape that differ in their length only.
+fn sized(name: &str) -> Option<(&str, usize)> {
+    let (shape, size) = name.rsplit_once('.')?;
+    Some((shape, size.parse().ok()?))
+}
+
+/// The ratio for each plan, then the time for a byte of each shape by its length. Whether no plan of 65,536 bytes takes longer than
+/// it takes the oracle, and a byte of such a plan no more than one and a half times what it takes in a plan of an eighth.
+fn time_all(paths: &[String]) -> bool {
     let mut worst: f64 = 0.0;
-    println!("{:>8} {:>8} {:>12} {:>12}   ratio", "bytes", "number", "ours", "oracle");
-    let mut total = (0.0, 0.0);
-    for plan in plans {
-        let (a, b) = (time(plan, ours), time(plan, theirs));
-        total = (total.0 + a, total.1 + b);
-        worst = worst.max(a / b);
-        println!("{:8} {:8} {a:9.1} us {b:9.1} us   {:.2}", plan.len(), ours(plan), a / b);
+    let mut growth: BTreeMap<String, BTreeMap<usize, f64>> = BTreeMap::new();
+    println!("{:<16} {:>8} {:>8} {:>12} {:>12}   ratio", "plan", "bytes", "number", "ours", "oracle");
+    for path in paths {
+        let name = Path::new(path).file_stem().and_then(|n| n.to_str()).expect("a name");
+        let plan = std::fs::read(path).expect("a plan");
+        let (a, b) = time(&plan);
+        if plan.len() == 65_536 {
+            worst = worst.max(a / b);
+        }
+        println!("{name:<16} {:8} {:8} {a:9.1} us {b:9.1} us   {:.2}", plan.len(), ours(&plan), a / b);
+        if let Some((shape, size)) = sized(name) {
+            growth.entry(shape.to_string()).or_default().insert(size, a);
+        }
     }
-    println!("in all {:.1} us, oracle {:.1} us, ratio {:.2}; worst {worst:.2}", total.0, total.1, total.0 / total.1);
-    total.0 <= total.1
+    let mut steepest: f64 = 0.0;
+    for (shape, times) in &growth {
+        let each = times.iter().map(|(size, us)| (size, us * 1000.0 / *size as f64));
+        let texts: Vec<_> = each.clone().map(|(size, ns)| format!("{ns:.2} at {size}")).collect();
+        println!("ns a byte, {shape}: {}", texts.join(", "));
+        let by_byte: Vec<f64> = each.map(|(_, ns)| ns).collect();
+        steepest = steepest.max(by_byte[by_byte.len() - 1] / by_byte[0]);
+    }
+    println!("worst ratio at 65,536 bytes {worst:.2}; a byte of the longest to one of the shortest at most {steepest:.2}");
+    worst <= 1.0 && steepest <= 1.5
 }
 
 fn main() -> ExitCode {
-    let good = match std::env::args().nth(1).as_deref() {
+    let arguments: Vec<String> = std::env::args().skip(1).collect();
+    let good = match arguments.first().map(String::as_str) {
         Some("check") => {
-            check(&frames());
+            check(&frames::frames());
             true
         }
-        Some("time") => time_all(&frames()),
+        Some("time") => time_all(&arguments[1..]),
         _ => {
-            eprintln!("usage: reader check|time < frames");
+            eprintln!("usage: reader check < frames, reader time FILE..");
             return ExitCode::from(2);
         }
     };

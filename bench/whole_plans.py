@@ -1,0 +1,101 @@
+#!/usr/bin/env python3
+"""whole_plans.py SHAPE..: plans for the benchmarks, as frames (oracle/README.md). A shape may have a size: `typical:4`.
+
+worked      the worked plan of document 01
+typical:N   N terms of 40 rules each: a match on an enum, a call, a return
+literals:N  N iterator terms of 500 integer arms, each of which returns an integer
+returns:N   an iterator term of N returns
+deep:N      N matches nested in one another in an iterator term, the arms' bodies split
+items       256 types, 1,024 variants, 512 terms, none generated
+explode:N   N bindings, each a struct of two fields that are both the binding before it: a text of more than 2 ** N bytes
+nested:KIND 1,024 bindings nested in one another, all of a kind that is written through its source
+"""
+
+import pathlib
+import sys
+
+SYMS = ["Path", "pick", "loss", "gain", "Pair", "first", "second"]
+TERM = "name pos ret multi partial ctor xtor infallible list"
+
+
+def plan(options, syms, types, variants, terms, generated):
+    def table(names, rows):
+        return "\n".join([names, *rows]) + "\n\n"
+
+    text = table("nopragmas log split threshold", [options])
+    text += table("file", ["paths.isle"]) + table("sym", syms) + table("pos", ["paths.isle line 1", "paths.isle line 2"])
+    text += table("kind name extern nodebug pos list", types) + table("type name shape list", variants) + table(TERM, terms)
+    for term, bindings, rows in generated:
+        text += table("term", [str(term)]) + table("kind a b list", bindings) + table("level kind a b list", rows)
+    return text
+
+
+def typical(n):
+    """Arm k matches variant k, whose field is binding 3k + 1, calls `loss` on it, and returns the result."""
+    bindings, rows = ["arg 0 - -"], ["0 match 0 - -"]
+    for k in range(40):
+        b = 3 * k + 1
+        bindings += ["matchvariant 0 - 0", f"construct 1 - {b}", f"some - - {b + 1}"]
+        rows += [f"1 variant 13 {k} {b}", f"2 return {b + 2} 1 {b + 1}"]
+    syms = SYMS + [f"Path{k}" for k in range(40)]
+    variants = [f"13 {len(SYMS) + k} named 5:1" for k in range(40)]
+    terms = ["1 0 9 0 1 in - 0 13", "2 0 9 0 0 2 - 0 1"]
+    return plan("0 0 0 -", syms, ["enum 0 0 0 0 -"], variants, terms, [(0, bindings, rows)] * n)
+
+
+def literals(n):
+    bindings, rows = ["arg 0 - -"], ["0 match 0 - -"]
+    for k in range(500):
+        bindings.append(f"int {k % 13} {k * 12345678901234567890 % 2**128:032x} -")
+        rows += [f"1 int 4 {k:032x} -", f"2 return {k + 1} 1 -"]
+    return plan("0 0 0 -", SYMS, [], [], ["1 0 4 1 0 in - 0 4"], [(0, bindings, rows)] * n)
+
+
+def returns(n):
+    rows = ["0 return 0 1 -"] * n
+    return plan("0 0 0 -", SYMS, [], [], ["1 0 1 1 0 in - 0 1"], [(0, ["arg 0 - -"], rows)])
+
+
+def deep(n):
+    """Row 2k matches, its two arms are at level 2k + 1; the second has the next match below it."""
+    rows = []
+    for k in range(n):
+        rows += [f"{2 * k} match 0 - -", f"{2 * k + 1} int 1 {k:032x} -", f"{2 * k + 2} return 0 1 -", f"{2 * k + 1} int 1 {99:032x} -"]
+    rows += [f"{2 * n} return 0 1 -"] * 64
+    return plan("0 0 1 2", SYMS, [], [], ["1 0 1 1 0 in - 0 1"], [(0, ["arg 0 - -"], rows)])
+
+
+def items():
+    types = ["enum 0 0 0 0 -" if k % 2 else "named 0 0 0 0 5:1,6:2" for k in range(243)]
+    variants = [f"{14 + 2 * (k % 121)} 5 {('unit -', 'tuple 1', 'named 5:1')[k % 3]}" for k in range(1024)]
+    terms = [f"{k % 7} 0 {1 + k % 200} {k % 3 // 2} {k % 2} {2 + k % 4} {1 + k % 5} {k % 2} {1 + k % 9},{13 + k % 200}" for k in range(512)]
+    return plan("0 0 0 -", SYMS, types, variants, terms, [])
+
+
+def explode(n):
+    bindings = ["arg 0 - -", "struct 13 - 0,0"] + [f"struct 13 - {k},{k}" for k in range(1, n)]
+    return plan("0 0 0 -", SYMS, ["named 4 0 0 0 5:13,6:13"], [], ["1 0 13 0 0 in - 0 1"], [(0, bindings, [f"0 return {n} 1 -"])])
+
+
+def nested(kind):
+    """Binding k is written through binding k - 1, and none is bound."""
+    a, types = {"construct": ("0", []), "struct": ("13", ["named 4 0 0 0 5:1"]), "matchtuple": ("0", [])}.get(kind, ("-", []))
+    bindings = ["arg 0 - -"] + [f"{kind} {a} - {k}" for k in range(1023)]
+    return plan("0 0 0 -", SYMS, types, [], ["1 0 1 0 0 in - 0 1"], [(0, bindings, ["0 return 1023 1 -"])])
+
+
+def worked():
+    return (pathlib.Path(__file__).resolve().parent.parent / "oracle/examples/worked.plan").read_text()
+
+
+def main():
+    shapes = {f.__name__: f for f in (worked, typical, literals, returns, deep, items, explode, nested)}
+    if len(sys.argv) < 2:
+        sys.exit(__doc__)
+    for shape in sys.argv[1:]:
+        name, _, size = shape.partition(":")
+        text = shapes[name](*([int(size) if size.isdigit() else size] if size else []))
+        sys.stdout.write(f"{len(text)}\n{text}")
+
+
+main()

@@ -1,0 +1,5 @@
+pub mod Middle
+pub mod Own
+pub mod Row
+pub mod Stack
+pub mod Loop

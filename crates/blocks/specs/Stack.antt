@@ -1,0 +1,210 @@
+-- The stack of open frames in code, and how it changes. Assumes nothing.
+use Prim.Native.Nat.{ℕ, zero, suc, _+_, _-_, _≤_, _<_}
+use mathlib.Core.Path.{_≡_, refl, sym, ap, _∙_}
+use mathlib.Core.Bool.{Bool, true, false, cond, _&&_}
+use mathlib.Core.Option.{Option, some, none}
+use mathlib.Core.List.{List, [], _∷_, map}
+use native.Mathlib.Nat.{add-zero, zero-add}
+use native.Mathlib.Numerals.{add-one}
+use native.Mathlib.Omega.{arith}
+use lib.Dec.{ltb}
+use lib.ListN.{length, getD, set, length-set, replicate}
+use lib.Seq.{getD-set-same, getD-set-other}
+use borrow.Author.Tests.{ltb-true, ltb-false}
+use Rattle.plan.specs.Row.{Row, level}
+use Rattle.codegen.specs.Writer.{Marks}
+use Rattle.codegen.specs.Block.{Purpose, one-arm, arms-of, arm-body, body, closure-count, closures, purpose-of, is-arm-body, numbered, pushed}
+use Rattle.codegen.specs.Block as block
+use Rattle.rows.specs.View.{nth, block-of}
+use Rattle.layout.specs.View.{cut, cuts}
+use Rattle.view.proofs.Laws.{cuts-next, cuts-none}
+use Rattle.splitting.specs.Continue.{NotDeeper, Inside}
+use Rattle.emits.specs.Marks.{set-of}
+use Rattle.context.specs.Closing.{closure-told}
+use Rattle.context.specs.declared.block.Closure.the-variants.{Absent}
+use Rattle.steps.specs.Told.{purpose-told}
+use Rattle.steps.specs.declared.Purpose.the-variants as p
+use Rattle.blocks.specs.Own.{level-is}
+use Rattle.blocks.specs.Row.{rows-from}
+use Rattle.blocks.specs.declared.walk.Frame.{Frame}
+
+-- one more than the level of the next row, 0 past the last row
+unfoldable pub next-level : List Row → ℕ
+next-level [] = 0
+next-level (r ∷ rs) = suc (level r)
+
+-- what the frame that a row opens is for, and how many it opens
+abbrev pub opened : Option Purpose → Purpose
+opened none = body
+opened (some p) = p
+
+abbrev pub opening : Option Purpose → ℕ
+opening none = 0
+opening (some p) = 1
+
+opening-one : (x : Option Purpose) → opening x ≤ 1
+opening-one none = omega arith
+opening-one (some p) = omega arith
+
+-- what an element is that is not there
+abbrev pub missing : Frame
+missing = record { level = 0; row = 0; purpose = p.OneArm; closure = Absent; bound = [] }
+
+unfoldable pub frame-told : Frame → block.Frame
+frame-told f = record { level = f .level - 1; row = f .row; purpose = purpose-told (f .purpose); bound = set-of (f .bound); closure = closure-told (f .closure) }
+
+-- the d frames after the root, the last of them first
+unfoldable pub frames-told : List Frame → ℕ → List block.Frame
+frames-told st zero = []
+frames-told st (suc d) = frame-told (getD st (suc d) missing) ∷ frames-told st d
+
+-- ROWS
+
+module _ (words rows : List ℕ) (r last : ℕ) where
+  pub rows-next : r < last → rows-from words rows last r ≡ block-of (cut words rows r) ∷ rows-from words rows last (r + 1)
+  rows-next h = rw (cuts-next words rows r last h)
+
+  pub rows-none : last ≤ r → rows-from words rows last r ≡ []
+  rows-none h = rw (cuts-none words rows r last h)
+
+  pub level-next : {n : ℕ} → r < last → n ≡ nth (cut words rows r) 0 → n + 1 ≡ next-level (rows-from words rows last r)
+  unfolding next-level
+  level-next h q = rw (rows-next h, level-is (cut words rows r), add-one, q)
+
+  pub level-none : last ≤ r → 0 ≡ next-level (rows-from words rows last r)
+  unfolding next-level
+  level-none h = rw (rows-none h)
+
+  -- a row is there where its level is asked for
+  pub row-there : {l : ℕ} → l < next-level (rows-from words rows last r) → r < last
+  row-there {l} g = by-test (ltb r last) refl where
+    by-test : (b : Bool) → ltb r last ≡ b → r < last
+    by-test true h = ltb-true r last h
+    by-test false h = absurd (omega (arith, level-none (ltb-false r last h)))
+
+  pub row-level : r < last → next-level (rows-from words rows last r) ≡ suc (level (block-of (cut words rows r)))
+  unfolding next-level
+  row-level h = rw (rows-next h)
+
+not-deeper : (l : ℕ) (rs : List Row) → 0 < l → next-level rs ≤ l → NotDeeper (l - 1) rs
+unfolding next-level
+not-deeper l [] g h = tt
+not-deeper l (r ∷ rs) g h = omega arith
+
+-- FRAMES
+
+frames-length : (st : List Frame) (d : ℕ) → length (frames-told st d) ≡ d
+unfolding frames-told
+frames-length st zero = refl
+frames-length st (suc d) = ap suc (frames-length st d)
+
+count-one : (k : Option ℕ) → closure-count k ≤ 1
+count-one none = omega arith
+count-one (some n) = omega arith
+
+closures-few : (st : List Frame) (d : ℕ) → closures (frames-told st d) ≤ d
+unfolding frames-told closures
+closures-few st zero = omega arith
+closures-few st (suc d) = omega (arith, closures-few st d, count-one (frame-told (getD st (suc d) missing) .closure))
+
+frames-set : (st : List Frame) (k : ℕ) (f : Frame) (d : ℕ) → d < k → frames-told (set st k f) d ≡ frames-told st d
+unfolding frames-told
+frames-set st k f zero h = refl
+frames-set st k f (suc d) h = rw (getD-set-other st k (suc d) f missing (λ q. absurd (omega arith)), frames-set st k f d (omega arith))
+
+pub frames-pop : (st : List Frame) (d : ℕ) → 0 < d → frames-told st d ≡ frame-told (getD st d missing) ∷ frames-told st (d - 1)
+unfolding frames-told
+frames-pop st zero h = absurd (omega arith)
+frames-pop st (suc d) h = let q : suc d - 1 ≡ d = omega arith in rw q
+
+frames-push : (st : List Frame) (d : ℕ) (f : Frame) (x : Option Purpose) (l i : ℕ) (outside : Marks) (k : Option ℕ) → d + 1 < length st
+    → f .level - 1 ≡ l → f .row ≡ i → purpose-told (f .purpose) ≡ opened x → set-of (f .bound) ≡ outside → closure-told (f .closure) ≡ k
+    → frames-told (set st (d + 1) f) (d + opening x) ≡ pushed x l i outside k (frames-told st d)
+unfolding frames-told pushed frame-told
+frames-push st d f none l i outside k h a b c e g = rw add-zero (frames-set st (d + 1) f d (omega arith))
+frames-push st d f (some p) l i outside k h a b c e g = rw (add-one, getD-set-same st (suc d) f missing (omega arith), frames-set st (suc d) f d (omega arith), a, b, c, e, g)
+
+-- what the numbers keep to, with d frames open and `inside` closures around
+pub record Stacked (st : List Frame) (d inside : ℕ) : Type 0 where
+  pub size : length st ≡ 65
+  pub few : d ≤ 64
+  pub root : getD st 0 missing .level ≡ 0
+  pub outermost : purpose-told (getD st 0 missing .purpose) ≡ body
+  pub low : (j : ℕ) → j ≤ d → j ≤ getD st j missing .level
+  pub count : inside ≡ closures (frames-told st d)
+
+pub stacked-start : (f : Frame) → f .level ≡ 0 → purpose-told (f .purpose) ≡ body → Stacked (replicate 65 f) 0 0
+unfolding frames-told closures
+stacked-start f h g = record { size = refl; few = omega arith; root = h; outermost = g; low = λ j k. omega arith; count = refl }
+
+module _ {st : List Frame} {d inside : ℕ} (s : Stacked st d inside) where
+  pub inside-few : inside ≤ d
+  inside-few = omega (arith, s .count, closures-few st d)
+
+  -- how deep a line is
+  pub depth-is : (base : ℕ) → base ≡ 1 → base + inside + d ≡ closures (frames-told st d) + suc (length (frames-told st d))
+  depth-is base h = omega (arith, s .count, frames-length st d)
+
+  pub purpose-top : purpose-of (frames-told st d) ≡ purpose-told (getD st d missing .purpose)
+  unfolding frames-told frame-told
+  purpose-top = by-cases d (s .outermost) where
+    by-cases : (m : ℕ) → purpose-told (getD st 0 missing .purpose) ≡ body → purpose-of (frames-told st m) ≡ purpose-told (getD st m missing .purpose)
+    by-cases zero h = sym h
+    by-cases (suc m) h = refl
+
+  pub inside-top : (l : ℕ) → getD st d missing .level < suc l → Inside l (frames-told st d)
+  unfolding frames-told frame-told
+  inside-top l h = by-cases d h (s .low d (omega arith)) where
+    by-cases : (m : ℕ) → getD st m missing .level < suc l → m ≤ getD st m missing .level → Inside l (frames-told st m)
+    by-cases zero g k = tt
+    by-cases (suc m) g k = omega arith
+
+  pub not-deeper-top : (rs : List Row) → 0 < d → next-level rs ≤ getD st d missing .level → NotDeeper (frame-told (getD st d missing) .level) rs
+  unfolding frame-told
+  not-deeper-top rs g h = not-deeper (getD st d missing .level) rs (omega (arith, s .low d (omega arith))) h
+
+  pub stacked-pop : (n : ℕ) → 0 < d → n ≡ inside - closure-count (closure-told (getD st d missing .closure)) → Stacked st (d - 1) n
+  unfolding closures frame-told
+  stacked-pop n h q = record {
+    size = s .size;
+    few = omega (arith, s .few);
+    root = s .root;
+    outermost = s .outermost;
+    low = λ j g. s .low j (omega arith);
+    count = omega (arith, q, rw (frames-pop st d h) at (s .count));
+  }
+
+closures-pushed : (x : Option Purpose) (l i : ℕ) (outside : Marks) (t b : Bool) (m : ℕ) (fs : List block.Frame) → t ≡ is-arm-body x && b → cond t (suc (closures fs)) (closures fs) ≡ closures (pushed x l i outside (numbered t m) fs)
+unfolding closures pushed
+closures-pushed none l i outside true b m fs h = absurd (let z : _≡_ {A = ℕ} 0 1 = cc in omega arith)
+closures-pushed none l i outside false b m fs h = refl
+closures-pushed (some p) l i outside true b m fs h = sym (add-one' (closures fs))
+  where
+    add-one' : (n : ℕ) → 1 + n ≡ suc n
+    add-one' n = omega arith
+closures-pushed (some p) l i outside false b m fs h = sym (zero-add (closures fs))
+
+level-set : (st : List Frame) (k : ℕ) (f : Frame) (j : ℕ) → j < k → getD (set st k f) j missing ≡ getD st j missing
+level-set st k f j h = getD-set-other st k j f missing (λ q. absurd (omega arith))
+
+module _ {st : List Frame} {d inside : ℕ} (s : Stacked st d inside) (f : Frame) (x : Option Purpose) (l i : ℕ) (outside : Marks) (t b : Bool) (m : ℕ) (room : d < 64)
+    (a : f .level ≡ suc l) (deeper : getD st d missing .level < suc l) (ri : f .row ≡ i) (pu : purpose-told (f .purpose) ≡ opened x) (bo : set-of (f .bound) ≡ outside) (cl : closure-told (f .closure) ≡ numbered t m) (sp : t ≡ is-arm-body x && b) where
+  pub stacked-frames : frames-told (set st (d + 1) f) (d + opening x) ≡ pushed x l i outside (numbered t m) (frames-told st d)
+  stacked-frames = frames-push st d f x l i outside (numbered t m) (omega (arith, s .size)) (omega arith) ri pu bo cl
+
+  low-push : (j : ℕ) → j ≤ d + opening x → j ≤ getD (set st (d + 1) f) j missing .level
+  low-push j h = by-test (ltb j (d + 1)) refl
+    where
+      by-test : (v : Bool) → ltb j (d + 1) ≡ v → j ≤ getD (set st (d + 1) f) j missing .level
+      by-test true q = let g : j < d + 1 = ltb-true j (d + 1) q in rw (level-set st (d + 1) f j g) (s .low j (omega arith))
+      by-test false q = let g : j ≡ d + 1 = omega (arith, ltb-false j (d + 1) q, opening-one x) in rw (g, getD-set-same st (d + 1) f missing (omega (arith, s .size))) (omega (arith, s .low d (omega arith)))
+
+  pub stacked-push : Stacked (set st (d + 1) f) (d + opening x) (cond t (suc inside) inside)
+  stacked-push = record {
+    size = simp length-set (s .size);
+    few = omega (arith, opening-one x);
+    root = rw (level-set st (d + 1) f 0 (omega arith)) (s .root);
+    outermost = rw (level-set st (d + 1) f 0 (omega arith)) (s .outermost);
+    low = low-push;
+    count = rw (s .count, stacked-frames) (closures-pushed x l i outside t b m (frames-told st d) sp);
+  }

@@ -1,0 +1,95 @@
+-- The three demands, of the entries `emit` and `emit_terms` (src/lib.rt). For any plan and any buffer the contract of `emit` says
+-- `Answers (answer plan (length before)) r before after` of its result r and the buffer before and after; that of `emit_terms` says
+-- the same with `terms-answer`. So what is proved here from `Answers` holds of each of their calls. Assumes nothing.
+use Prim.Native.Nat.{ℕ, zero, suc, _≤_}
+use mathlib.Core.Path.{_≡_, refl, sym, ap, _∙_}
+use mathlib.Core.Bool.{Bool, true, false}
+use mathlib.Core.List.{List, [], _∷_, _++_}
+use native.Mathlib.Omega.{arith}
+use lib.Dec.{eqb, leb}
+use borrow.Author.Tests.{ne-eqb, le-leb}
+use lib.ListN.{length, drop, take}
+use Rattle.plan.specs.Plan.{Plan}
+use Rattle.plan.specs.Refusal.{Outcome, refused, accepted, outcome}
+use Rattle.codegen.specs.Terms.{terms-text, odds}
+use Rattle.codegen.specs.Answer.{Answer, answer-of, answer, terms-answer, whole-text}
+use Rattle.codegen.specs.AnswerLaws.{Given, refusing, writing, answer-given, terms-answer-given}
+use Rattle.codegen.specs.TakeOff.{closures-off, closures-off-terms}
+use Rattle.splitting.specs.Cases.{false-true}
+use Rattle.splitting.specs.Demand3.{SplitPair}
+use Rattle.splitting.specs.Theorems.{answers-agree, terms-answers-agree}
+use Rattle.emitter.specs.declared.Emitted.{Emitted}
+use Rattle.emitter.specs.declared.Emitted.the-variants.{Refused, Text}
+use Rattle.emitter.specs.Answered.{number-of, length-of, count-of, is-text, Answers}
+
+-- DEMAND 1: "A caller may hand over any bytes as a plan, and an output buffer of any length, and gets the text or one of the
+-- refusals 1 to 11; a refusal gives length 0 and count 0 and changes no byte of the buffer."
+
+pub data TextOrRefusal (before : List ℕ) : Emitted → List ℕ → Type 0 where
+  turned-away : (n : ℕ) → 1 ≤ n → n ≤ 11 → TextOrRefusal before (Refused n) before
+  text : (t : List ℕ) (count : ℕ) → length t ≤ length before → count ≤ length t → TextOrRefusal before (Text (length t) count) (t ++ drop (length t) before)
+
+text-or-refusal : {a : Answer} {before : List ℕ} {r : Emitted} {after : List ℕ} → Given (length before) a → Answers a r before after → TextOrRefusal before r after
+text-or-refusal {r = Refused n} (refusing m h g) p = let q : n ≡ m = p .number in rw (p .bytes) (turned-away n (omega arith) (omega arith))
+text-or-refusal {r = Text l k} (refusing m h g) p = false-true (sym (ne-eqb m 0 (λ z. absurd (omega arith))) ∙ sym (p .written))
+text-or-refusal {r = Refused n} (writing t c h g) p = false-true (p .written)
+text-or-refusal {r = Text l k} (writing t c h g) p = rw (p .bytes, p .length, p .count) (text t c h g)
+
+pub demand-1 : (plan before : List ℕ) {r : Emitted} {after : List ℕ} → Answers (answer plan (length before)) r before after → TextOrRefusal before r after
+demand-1 plan before p = text-or-refusal (answer-given plan (length before)) p
+
+pub demand-1-terms : (plan before : List ℕ) {r : Emitted} {after : List ℕ} → Answers (terms-answer plan (length before)) r before after → TextOrRefusal before r after
+demand-1-terms plan before p = text-or-refusal (terms-answer-given plan (length before)) p
+
+-- DEMAND 2: "For every plan that passes refusals 1 to 10, with a buffer long enough: the bytes are those that the crate's release build
+-- writes from the same environments, bindings and blocks." The definitions `whole-text` and `terms-text` state these bytes; that they
+-- are the crate's is tested (tools/try-definition, bench/run whole compare). "The count is that of the odd literals": `odds`.
+
+pub record Writes (t : List ℕ) (count : ℕ) (before : List ℕ) (r : Emitted) (after : List ℕ) : Type 0 where
+  pub result : r ≡ Text (length t) count
+  pub bytes : after ≡ t ++ drop (length t) before
+
+writes : (form : Plan → List ℕ) (p : Plan) {before : List ℕ} {r : Emitted} {after : List ℕ} → length (form p) ≤ length before → Answers (answer-of form (length before) (accepted p)) r before after → Writes (form p) (odds p) before r after
+unfolding answer-of
+writes form p {before} {r} {after} h q = by-result r (rw (le-leb (length (form p)) (length before) h) at q)
+  where
+    by-result : (r : Emitted) → Answers (record { number = 0; length = length (form p); count = odds p; text = form p }) r before after → Writes (form p) (odds p) before r after
+    by-result (Refused n) q = false-true (q .written)
+    by-result (Text l k) q = record { result = rw (q .length, q .count) refl; bytes = q .bytes }
+
+pub demand-2 : (plan before : List ℕ) (p : Plan) {r : Emitted} {after : List ℕ} → outcome plan ≡ accepted p → length (whole-text p) ≤ length before → Answers (answer plan (length before)) r before after → Writes (whole-text p) (odds p) before r after
+unfolding answer
+demand-2 plan before p e h q = writes whole-text p h (rw e at q)
+
+pub demand-2-terms : (plan before : List ℕ) (p : Plan) {r : Emitted} {after : List ℕ} → outcome plan ≡ accepted p → length (terms-text p) ≤ length before → Answers (terms-answer plan (length before)) r before after → Writes (terms-text p) (odds p) before r after
+unfolding terms-answer
+demand-2-terms plan before p e h q = writes terms-text p h (rw e at q)
+
+-- DEMAND 3: "Take any two plans that differ only in split and threshold, splitting off in one and on in the other, whatever the threshold,
+-- each accepted with its buffer. Their counts are equal. The split text becomes the other, byte for byte" by `closures-off`
+-- (codegen/specs/TakeOff). splitting/specs/Demand3 has the same of the definition, and what the closures of the split text are.
+
+-- the text and the count of a call that wrote one are the answer's
+read-text : {a : Answer} {l k : ℕ} {before after : List ℕ} → Given (length before) a → Answers a (Text l k) before after → (a .number ≡ 0) × (take l after ≡ a .text) × (k ≡ a .count)
+read-text (refusing m h g) q = false-true (sym (ne-eqb m 0 (λ z. absurd (omega arith))) ∙ sym (q .written))
+read-text {before = before} (writing t c h g) q = (refl, rw (q .bytes, q .length) (take-append t (drop (length t) before)), q .count)
+  where
+    take-append : (t u : List ℕ) → take (length t) (t ++ u) ≡ t
+    take-append [] u = refl
+    take-append (x ∷ t) u = ap (λ (l : List ℕ). x ∷ l) (take-append t u)
+
+pub demand-3 : (a b : List ℕ) (p q : Plan) → SplitPair a b p q → {l k : ℕ} {before after : List ℕ} → Answers (answer a (length before)) (Text l k) before after
+    → {m n : ℕ} {before' after' : List ℕ} → Answers (answer b (length before')) (Text m n) before' after' → (closures-off a (take l after) ≡ take m after') × (k ≡ n)
+demand-3 a b p q s {before = before} x {before' = before'} y =
+    let u = read-text (answer-given a (length before)) x in
+    let v = read-text (answer-given b (length before')) y in
+    let w = answers-agree a b p q s (length before) (length before') (u .0) (v .0) in
+    (ap (closures-off a) (u .1) ∙ w .0 ∙ sym (v .1), u .2 ∙ w .1 ∙ sym (v .2))
+
+pub demand-3-terms : (a b : List ℕ) (p q : Plan) → SplitPair a b p q → {l k : ℕ} {before after : List ℕ} → Answers (terms-answer a (length before)) (Text l k) before after
+    → {m n : ℕ} {before' after' : List ℕ} → Answers (terms-answer b (length before')) (Text m n) before' after' → (closures-off-terms a (take l after) ≡ take m after') × (k ≡ n)
+demand-3-terms a b p q s {before = before} x {before' = before'} y =
+    let u = read-text (terms-answer-given a (length before)) x in
+    let v = read-text (terms-answer-given b (length before')) y in
+    let w = terms-answers-agree a b p q s (length before) (length before') (u .0) (v .0) in
+    (ap (closures-off-terms a) (u .1) ∙ w .0 ∙ sym (v .1), u .2 ∙ w .1 ∙ sym (v .2))

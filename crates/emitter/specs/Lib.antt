@@ -1,0 +1,6 @@
+pub mod Answered
+pub mod Held
+pub mod Texts
+pub mod Accepted
+pub mod EntryLaws
+pub mod Demands

@@ -1,0 +1,210 @@
+// The entries: from a plan's bytes and a buffer to the answer. They measure, then write: a text that is longer than the buffer is
+// refused before a byte is written.
+pub mod exports;
+
+use emits::Written;
+use reader::Laid;
+ghost use mathlib.Core.Path.{_≡_};
+ghost use mathlib.Core.List.{List};
+ghost use Prim.Native.Nat.{ℕ, _+_, _-_, _≤_, _<_};
+ghost use lib.ListN.{length, getD, take};
+ghost use Rattle.plan.specs.Plan.{Plan};
+ghost use Rattle.plan.specs.Refusal.{Outcome, accepted, outcome};
+ghost use Rattle.codegen.specs.Answer.{answer, terms-answer};
+ghost use Rattle.variants.specs.Index.{VariantIndex};
+ghost use Rattle.emitter.specs.Answered.{Answers, items-answer};
+ghost use Rattle.emitter.specs.Held.{Held, Accepts, form-text, form-count, answer-in, below};
+ghost use Rattle.emitter.specs.Texts.{Texts};
+
+pub enum Emitted {
+    // Document 01's number, 1 to 11. Nothing is written.
+    Refused { number: u32 },
+    // The text is written: its length, and how many of its literals are odd.
+    Text { length: usize, count: usize },
+}
+
+// Which text is asked for: all of it, the generated terms alone, or what stands before them.
+pub enum Form {
+    Whole,
+    Terms,
+    Items,
+}
+
+// `generate_rust` of codegen.rs 176, or a part of it.
+fn put_text(
+    out: &mut [u8],
+    end: usize,
+    form: Form,
+    plan: &[u8],
+    words: &[u32],
+    rows: &[u32],
+    tables: &[u32],
+    index: &[u32],
+) -> Written
+    ensures { λ r. ⌜ ((p : Plan) → Held p (now (plan .entry)) (now (words .entry)) (now (rows .entry)) (now (tables .entry)) (now (index .entry)) → Texts end (form-text form p) (form-count form p) (now (out .entry)) 0 0 (now (out .exit)) (r .at) (r .odd)) ⌝ }
+{
+    match form {
+        Form::Whole => {
+            let at = emit_items::items(out, 0, end, plan, words, rows, tables, index);
+            emit_terms::term::generate_internal_term_constructors(
+                out,
+                end,
+                at,
+                0,
+                plan,
+                words,
+                rows,
+                tables,
+                index,
+            )
+        }
+        Form::Terms => {
+            emit_terms::term::generate_internal_term_constructors(
+                out,
+                end,
+                0,
+                0,
+                plan,
+                words,
+                rows,
+                tables,
+                index,
+            )
+        }
+        Form::Items => {
+            let at = emit_items::items(out, 0, end, plan, words, rows, tables, index);
+            Written { at, odd: 0 }
+        }
+    }
+}
+
+// Whether a text that leads to this place fits.
+fn fits(w: Written, end: usize) -> bool
+    ensures { λ r. ⌜ r ≡ below (w .at) (w .odd) end ⌝ }
+{
+    if end <= w.at {
+        return false;
+    }
+    w.odd < end
+}
+
+// The answer for a plan that is accepted.
+fn answer_held(
+    out: &mut [u8],
+    form: Form,
+    plan: &[u8],
+    words: &[u32],
+    rows: &[u32],
+    tables: &[u32],
+    index: &[u32],
+) -> Emitted
+    ensures { λ r. ⌜ ((p : Plan) → Held p (now (plan .entry)) (now (words .entry)) (now (rows .entry)) (now (tables .entry)) (now (index .entry)) → Answers (answer-in form (length (now (out .entry))) (accepted p)) r (now (out .entry)) (now (out .exit))) ⌝ }
+{
+    let end = out.len() + 1;
+    let mut measured = [0u8; 1];
+    let m = put_text(&mut measured, end, form, plan, words, rows, tables, index);
+    if fits(m, end) {
+        let w = put_text(out, end, form, plan, words, rows, tables, index);
+        return Emitted::Text {
+            length: w.at,
+            count: w.odd,
+        };
+    }
+    Emitted::Refused { number: 11 }
+}
+
+// Indexes the variants, where there are no more than a plan may have.
+fn index_held(words: &[u32], rows: &[u32], tables: &[u32], index: &mut [u32])
+    ensures { λ _. ⌜ (1281 ≤ length (now (index .entry)) → getD (now (tables .entry)) 6 0 - getD (now (tables .entry)) 5 0 ≤ 1024 → VariantIndex (now (words .entry)) (now (rows .entry)) (now (tables .entry)) (now (index .exit))) ⌝ }
+{
+    if index.len() < 1281 {
+        return;
+    }
+    if 1024 < view::row_count(tables, 5) {
+        return;
+    }
+    variants::index_variants(words, rows, tables, index);
+}
+
+// The same, with the index of the variants made first.
+fn answer_indexed(
+    out: &mut [u8],
+    form: Form,
+    plan: &[u8],
+    words: &[u32],
+    rows: &[u32],
+    tables: &[u32],
+) -> Emitted
+    ensures { λ r. ⌜ ((p : Plan) → Accepts p (now (plan .entry)) (now (words .entry)) (now (rows .entry)) (now (tables .entry)) → Answers (answer-in form (length (now (out .entry))) (accepted p)) r (now (out .entry)) (now (out .exit))) ⌝ }
+{
+    let mut index = [0u32; 1281];
+    index_held(words, rows, tables, &mut index);
+    answer_held(out, form, plan, words, rows, tables, &index)
+}
+
+// The same for j of the reader's tables.
+fn answer_tables(
+    out: &mut [u8],
+    form: Form,
+    plan: &[u8],
+    words: &[u32],
+    rows: &[u32],
+    tables: &[u32],
+    j: usize,
+) -> Emitted
+    requires { ⌜ j < length (now tables) ⌝ }
+    ensures { λ r. ⌜ ((p : Plan) → Accepts p (now (plan .entry)) (now (words .entry)) (now (rows .entry)) (take (j + 1) (now (tables .entry))) → Answers (answer-in form (length (now (out .entry))) (accepted p)) r (now (out .entry)) (now (out .exit))) ⌝ }
+{
+    let end = j + 1;
+    answer_indexed(out, form, plan, words, rows, &tables[..end])
+}
+
+// The same for buffers of the reader's lengths, which are known of arrays.
+fn answer_read(
+    out: &mut [u8],
+    form: Form,
+    plan: &[u8],
+    words: &[u32; 65536],
+    rows: &[u32; 32769],
+    tables: &[u32; 16385],
+    j: usize,
+) -> Emitted
+    requires { ⌜ j < 16385 ⌝ }
+    ensures { λ r. ⌜ ((p : Plan) → Accepts p (now (plan .entry)) (now (words .entry)) (now (rows .entry)) (take (j + 1) (now (tables .entry))) → Answers (answer-in form (length (now (out .entry))) (accepted p)) r (now (out .entry)) (now (out .exit))) × (j < length (now (tables .entry))) ⌝ }
+{
+    answer_tables(out, form, plan, words, rows, tables, j)
+}
+
+fn answer_plan(plan: &[u8], out: &mut [u8], form: Form) -> Emitted
+    ensures { λ r. ⌜ Answers (answer-in form (length (now (out .entry))) (outcome (now (plan .entry)))) r (now (out .entry)) (now (out .exit)) ⌝ }
+{
+    let mut words = [0u32; 65536];
+    let mut rows = [0u32; 32769];
+    let mut tables = [0u32; 16385];
+    let r = refusals::read(plan, &mut words, &mut rows, &mut tables);
+    match r {
+        Laid::Refused(number) => Emitted::Refused { number },
+        Laid::Held(_rows, j) => answer_read(out, form, plan, &words, &rows, &tables, j),
+    }
+}
+
+// The whole module of a plan.
+pub fn emit(plan: &[u8], out: &mut [u8]) -> Emitted
+    ensures { λ r. ⌜ Answers (answer (now (plan .entry)) (length (now (out .entry)))) r (now (out .entry)) (now (out .exit)) ⌝ }
+{
+    answer_plan(plan, out, Form::Whole)
+}
+
+// The text of a plan's generated terms alone.
+pub fn emit_terms(plan: &[u8], out: &mut [u8]) -> Emitted
+    ensures { λ r. ⌜ Answers (terms-answer (now (plan .entry)) (length (now (out .entry)))) r (now (out .entry)) (now (out .exit)) ⌝ }
+{
+    answer_plan(plan, out, Form::Terms)
+}
+
+// What stands before the terms: header, trait and types.
+pub fn emit_items(plan: &[u8], out: &mut [u8]) -> Emitted
+    ensures { λ r. ⌜ Answers (items-answer (now (plan .entry)) (length (now (out .entry)))) r (now (out .entry)) (now (out .exit)) ⌝ }
+{
+    answer_plan(plan, out, Form::Items)
+}

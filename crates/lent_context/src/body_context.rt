@@ -1,0 +1,57 @@
+// Each step copies the state, calls the step by value of the crate `context`, and stores what that returns.
+use context::body_context::BodyContext;
+ghost use mathlib.Core.Path.{_≡_};
+ghost use Prim.Native.Nat.{_<_};
+ghost use Rattle.emits.specs.Marks.{set-of};
+ghost use Rattle.context.specs.Context.{Set-ref, Bind, deeper, closed, counted};
+
+// codegen.rs 128: the bindings that have names outside. The state is as it was.
+pub fn enter_scope(context: &mut BodyContext) -> [bool; 1024]
+    ensures { λ r. ⌜ (set-of r ≡ set-of (now (context .entry) .«is_bound»)) × (now (context .exit) ≡ now (context .entry)) ⌝ }
+{
+    let was = *context;
+    was.enter_scope()
+}
+
+// codegen.rs 133.
+pub fn begin_block(context: &mut BodyContext)
+    requires { ⌜ now context .depth < 4096 ⌝ }
+    ensures { λ _. ⌜ now (context .exit) ≡ deeper (now (context .entry)) ⌝ }
+{
+    let was = *context;
+    *context = was.begin_block();
+}
+
+// codegen.rs 138: the bindings of the scope alone have names; those that are references stay so.
+pub fn end_block(context: &mut BodyContext, scope: [bool; 1024])
+    requires { ⌜ 0 < now context .depth ⌝ }
+    ensures { λ _. ⌜ now (context .exit) ≡ closed (now (context .entry)) scope ⌝ }
+{
+    let was = *context;
+    *context = was.end_block(scope);
+}
+
+// codegen.rs 152.
+pub fn set_ref(context: &mut BodyContext, binding: usize, is_ref: bool)
+    ensures { λ _. ⌜ Set-ref (now (context .entry)) binding «is_ref» (now (context .exit)) ⌝ }
+{
+    let was = *context;
+    *context = was.set_ref(binding, is_ref);
+}
+
+// `is_bound.insert`.
+pub fn bind(context: &mut BodyContext, binding: usize)
+    ensures { λ _. ⌜ Bind (now (context .entry)) binding (now (context .exit)) ⌝ }
+{
+    let was = *context;
+    *context = was.bind(binding);
+}
+
+// codegen.rs 885: a closure has been numbered.
+pub fn count_split(context: &mut BodyContext)
+    requires { ⌜ now context .«match_split» < 4294967296 ⌝ }
+    ensures { λ _. ⌜ now (context .exit) ≡ counted (now (context .entry)) ⌝ }
+{
+    let was = *context;
+    *context = was.count_split();
+}

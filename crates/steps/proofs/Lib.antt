@@ -1,0 +1,6 @@
+pub mod BufferLaws
+pub mod CalleeLaws
+pub mod CheckLaws
+pub mod HeadLaws
+pub mod LetLaws
+pub mod ReturnLaws
