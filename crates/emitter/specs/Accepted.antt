@@ -1,4 +1,4 @@
--- What the first and the fourth check say of an accepted plan. Assumes nothing.
+-- What the fourth check says of an accepted plan. Assumes nothing.
 use Prim.Native.Nat.{ℕ, _≤_}
 use mathlib.Core.Path.{_≡_, refl}
 use mathlib.Core.Bool.{Bool, true, false, cond}
@@ -11,15 +11,6 @@ use Rattle.plan.specs.Layout.{read}
 use Rattle.plan.specs.Refusal.{at-most, within-most, environment-most, bytes-allowed, fits-length, Outcome, refused, accepted, laid-out, outcome}
 use Rattle.splitting.specs.Cases.{and-left, and-right}
 use Rattle.emit_terms.specs.Accepted.{Passes}
-
--- a plan that is accepted is no longer than a plan may be
-pub accepted-short : (s : List ℕ) (p : Plan) → outcome s ≡ accepted p → length s ≤ 65536
-unfolding outcome fits-length
-accepted-short s p e = by-test (fits-length s) refl e
-  where
-    by-test : (b : Bool) → fits-length s ≡ b → cond b (cond (bytes-allowed s) (laid-out (read s)) (refused 2)) (refused 1) ≡ accepted p → length s ≤ 65536
-    by-test true h q = leb-true (length s) 65536 h
-    by-test false h q = absurd (let z : _≡_ {A = ℕ} 0 1 = cc in omega arith)
 
 module _ (p : Plan) (k : Passes p) where
   most-of : environment-most (p .env) ≡ true

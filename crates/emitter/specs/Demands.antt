@@ -9,6 +9,7 @@ use native.Mathlib.Omega.{arith}
 use lib.Dec.{eqb, leb}
 use borrow.Author.Tests.{ne-eqb, le-leb}
 use lib.ListN.{length, drop, take}
+use lib.Seq.{take-append-seam}
 use Rattle.plan.specs.Plan.{Plan}
 use Rattle.plan.specs.Refusal.{Outcome, refused, accepted, outcome}
 use Rattle.codegen.specs.Terms.{terms-text, odds}
@@ -72,11 +73,7 @@ demand-2-terms plan before p e h q = writes terms-text p h (rw e at q)
 -- the text and the count of a call that wrote one are the answer's
 read-text : {a : Answer} {l k : ℕ} {before after : List ℕ} → Given (length before) a → Answers a (Text l k) before after → (a .number ≡ 0) × (take l after ≡ a .text) × (k ≡ a .count)
 read-text (refusing m h g) q = false-true (sym (ne-eqb m 0 (λ z. absurd (omega arith))) ∙ sym (q .written))
-read-text {before = before} (writing t c h g) q = (refl, rw (q .bytes, q .length) (take-append t (drop (length t) before)), q .count)
-  where
-    take-append : (t u : List ℕ) → take (length t) (t ++ u) ≡ t
-    take-append [] u = refl
-    take-append (x ∷ t) u = ap (λ (l : List ℕ). x ∷ l) (take-append t u)
+read-text {before = before} (writing t c h g) q = (refl, rw (q .bytes, q .length) (take-append-seam t (drop (length t) before)), q .count)
 
 pub demand-3 : (a b : List ℕ) (p q : Plan) → SplitPair a b p q → {l k : ℕ} {before after : List ℕ} → Answers (answer a (length before)) (Text l k) before after
     → {m n : ℕ} {before' after' : List ℕ} → Answers (answer b (length before')) (Text m n) before' after' → (closures-off a (take l after) ≡ take m after') × (k ≡ n)

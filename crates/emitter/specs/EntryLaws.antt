@@ -6,6 +6,7 @@ use mathlib.Core.List.{List, [], _∷_, _++_}
 use native.Mathlib.Omega.{arith}
 use lib.Dec.{ltb, leb}
 use lib.ListN.{length, getD, drop, take}
+use lib.Seq.{take-append-seam}
 use borrow.Author.Tests.{ne-eqb, ltb-true, ltb-false, lt-ltb, leb-true, le-leb}
 use Rattle.text.specs.Sink.{Puts}
 use Rattle.plan.specs.Plan.{Environment, Plan}
@@ -30,7 +31,7 @@ use Rattle.emitter.specs.declared.Emitted.{Emitted}
 use Rattle.emitter.specs.declared.Emitted.the-variants.{Refused, Text}
 use Rattle.emitter.specs.Answered.{Answers, uncounted, items-answer}
 use Rattle.emit_terms.specs.Accepted.{accepted-passes, accepted-fits}
-use Rattle.emitter.specs.Accepted.{accepted-short, few-variants}
+use Rattle.emitter.specs.Accepted.{few-variants}
 use Rattle.emitter.specs.Held.{Held, Accepts, form-text, form-count, answer-with, answer-in, below}
 use Rattle.emitter.specs.declared.Form.{Form}
 use Rattle.emitter.specs.declared.Form.the-variants.{Whole, Terms, Items}
@@ -80,6 +81,16 @@ module _ (t : List ℕ) (k : ℕ) (le : k ≤ length t) (room : ℕ) {o₀ o₀'
       let f : (at ≡ length t) × (n ≡ k) × (o' ≡ _) = texts-fit w le l in
       rw (le-leb (length t) room (omega arith)) (record { number = refl; length = f .0; count = f .1; written = refl; bytes = texts-written w le l (omega arith) })
 
+  -- measured into a draft that has all of it: then it is put from there
+  pub answers-copied : below at₀ n₀ (room + 1) ≡ true → at₀ ≤ length o₀ → {o o' : List ℕ} {at : ℕ} → room ≡ length o → Puts (room + 1) (take (at₀ - 0) (drop 0 o₀')) o 0 o' at → Answers (answer-with t k room) (Text at₀ n₀) o o'
+  unfolding answer-with
+  answers-copied h g {o} {o'} {at} r w =
+      let l : length t < room + 1 = texts-room m le (ltb-true at₀ (room + 1) (and-left (ltb at₀ (room + 1)) _ h)) (ltb-true n₀ (room + 1) (and-right (ltb at₀ (room + 1)) _ h)) in
+      let f : (at₀ ≡ length t) × (n₀ ≡ k) × (o₀' ≡ _) = texts-fit m le l in
+      let z : at₀ - 0 ≡ length t = omega arith in
+      let d : take (at₀ - 0) o₀' ≡ t = rw (z, texts-written m le l (omega arith)) (take-append-seam t (drop (length t) o₀)) in
+      rw (le-leb (length t) room (omega arith)) (record { number = refl; length = f .0; count = f .1; written = refl; bytes = texts-written (texts-puts (rw d at w)) (omega arith) l (omega arith) })
+
 -- the forms are those of the definition
 in-of : (f : Form) (room : ℕ) (o : Outcome) → uncounted (answer-in f room o) ≡ uncounted (answer-of (form-text f) room o)
 unfolding answer-in answer-with answer-of
@@ -127,23 +138,23 @@ module _ (f : Form) (s words rows tables : List ℕ) (room : ℕ) (o : List ℕ)
       go (refused m) e q = record { number = q; length = refl; count = refl; written = rw (ne-eqb m 0 (λ z. absurd (omega (arith, refused-number s m e)))) refl; bytes = refl }
       go (accepted p) e q = absurd q
 
-  -- there are few tables
-  pub few-tables : (n j : ℕ) → Says (outcome s) s (laid.Held n j) words rows tables → j < 16385
+  -- the tables that are told are there
+  pub told-tables : (n j : ℕ) → Says (outcome s) s (laid.Held n j) words rows tables → j < length tables
   unfolding Says
-  few-tables n j h = go (outcome s) refl h
+  told-tables n j h = go (outcome s) h
     where
-      go : (x : Outcome) → outcome s ≡ x → Says x s (laid.Held n j) words rows tables → j < 16385
-      go (refused m) e q = absurd q
-      go (accepted p) e q = omega (arith, q .few-tables, accepted-short s p e)
+      go : (x : Outcome) → Says x s (laid.Held n j) words rows tables → j < length tables
+      go (refused m) q = absurd q
+      go (accepted p) q = q .held
 
-  pub answers-held : (n j : ℕ) {r : Emitted} {o' : List ℕ} → Says (outcome s) s (laid.Held n j) words rows tables → j < length tables
+  pub answers-held : (n j : ℕ) {r : Emitted} {o' : List ℕ} → Says (outcome s) s (laid.Held n j) words rows tables
       → ((p : Plan) → Accepts p s words rows (take (j + 1) tables) → Answers (answer-in f room (accepted p)) r o o') → Answers (answer-in f room (outcome s)) r o o'
   unfolding Says
-  answers-held n j {r} {o'} h l k = go (outcome s) refl h
+  answers-held n j {r} {o'} h k = go (outcome s) refl h
     where
       go : (x : Outcome) → outcome s ≡ x → Says x s (laid.Held n j) words rows tables → Answers (answer-in f room x) r o o'
       go (refused m) e q = absurd q
-      go (accepted p) e q = k p (record { accepts = e; is = sym (plan-is words rows tables n j (q .index) l s) ∙ q .is })
+      go (accepted p) e q = k p (record { accepts = e; is = sym (plan-is words rows tables n j (q .index) (q .held) s) ∙ q .is })
 
 -- THE ENVIRONMENT
 

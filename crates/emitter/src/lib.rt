@@ -4,6 +4,7 @@ pub mod exports;
 
 use emits::Written;
 use reader::Laid;
+use text::sink::put_part;
 ghost use mathlib.Core.Path.{_≡_};
 ghost use mathlib.Core.List.{List};
 ghost use Prim.Native.Nat.{ℕ, _+_, _-_, _≤_, _<_};
@@ -11,6 +12,7 @@ ghost use lib.ListN.{length, getD, take};
 ghost use Rattle.plan.specs.Plan.{Plan};
 ghost use Rattle.plan.specs.Refusal.{Outcome, accepted, outcome};
 ghost use Rattle.codegen.specs.Answer.{answer, terms-answer};
+ghost use Rattle.reader.specs.Reading.{Room};
 ghost use Rattle.variants.specs.Index.{VariantIndex};
 ghost use Rattle.emitter.specs.Answered.{Answers, items-answer};
 ghost use Rattle.emitter.specs.Held.{Held, Accepts, form-text, form-count, answer-in, below};
@@ -88,7 +90,8 @@ fn fits(w: Written, end: usize) -> bool
     w.odd < end
 }
 
-// The answer for a plan that is accepted.
+// The answer for a plan that is accepted. The text is measured as it is put into a draft; where the draft has all of it, it is
+// copied from there.
 fn answer_held(
     out: &mut [u8],
     form: Form,
@@ -97,20 +100,27 @@ fn answer_held(
     rows: &[u32],
     tables: &[u32],
     index: &[u32],
+    draft: &mut [u8],
 ) -> Emitted
     ensures { λ r. ⌜ ((p : Plan) → Held p (now (plan .entry)) (now (words .entry)) (now (rows .entry)) (now (tables .entry)) (now (index .entry)) → Answers (answer-in form (length (now (out .entry))) (accepted p)) r (now (out .entry)) (now (out .exit))) ⌝ }
 {
     let end = out.len() + 1;
-    let mut measured = [0u8; 1];
-    let m = put_text(&mut measured, end, form, plan, words, rows, tables, index);
-    if fits(m, end) {
-        let w = put_text(out, end, form, plan, words, rows, tables, index);
+    let m = put_text(draft, end, form, plan, words, rows, tables, index);
+    if !fits(m, end) {
+        return Emitted::Refused { number: 11 };
+    }
+    if m.at <= draft.len() {
+        put_part(out, 0, end, draft, 0, m.at);
         return Emitted::Text {
-            length: w.at,
-            count: w.odd,
+            length: m.at,
+            count: m.odd,
         };
     }
-    Emitted::Refused { number: 11 }
+    let w = put_text(out, end, form, plan, words, rows, tables, index);
+    Emitted::Text {
+        length: w.at,
+        count: w.odd,
+    }
 }
 
 // Indexes the variants, where there are no more than a plan may have.
@@ -134,12 +144,13 @@ fn answer_indexed(
     words: &[u32],
     rows: &[u32],
     tables: &[u32],
+    draft: &mut [u8],
 ) -> Emitted
     ensures { λ r. ⌜ ((p : Plan) → Accepts p (now (plan .entry)) (now (words .entry)) (now (rows .entry)) (now (tables .entry)) → Answers (answer-in form (length (now (out .entry))) (accepted p)) r (now (out .entry)) (now (out .exit))) ⌝ }
 {
     let mut index = [0u32; 1281];
     index_held(words, rows, tables, &mut index);
-    answer_held(out, form, plan, words, rows, tables, &index)
+    answer_held(out, form, plan, words, rows, tables, &index, draft)
 }
 
 // The same for j of the reader's tables.
@@ -150,42 +161,113 @@ fn answer_tables(
     words: &[u32],
     rows: &[u32],
     tables: &[u32],
+    draft: &mut [u8],
     j: usize,
 ) -> Emitted
     requires { ⌜ j < length (now tables) ⌝ }
     ensures { λ r. ⌜ ((p : Plan) → Accepts p (now (plan .entry)) (now (words .entry)) (now (rows .entry)) (take (j + 1) (now (tables .entry))) → Answers (answer-in form (length (now (out .entry))) (accepted p)) r (now (out .entry)) (now (out .exit))) ⌝ }
 {
     let end = j + 1;
-    answer_indexed(out, form, plan, words, rows, &tables[..end])
+    answer_indexed(out, form, plan, words, rows, &tables[..end], draft)
 }
 
-// The same for buffers of the reader's lengths, which are known of arrays.
+// The answer for any bytes, with buffers that are long enough for them.
 fn answer_read(
+    plan: &[u8],
     out: &mut [u8],
     form: Form,
-    plan: &[u8],
-    words: &[u32; 65536],
-    rows: &[u32; 32769],
-    tables: &[u32; 16385],
-    j: usize,
+    words: &mut [u32],
+    rows: &mut [u32],
+    tables: &mut [u32],
+    above: &mut [u8],
+    draft: &mut [u8],
 ) -> Emitted
-    requires { ⌜ j < 16385 ⌝ }
-    ensures { λ r. ⌜ ((p : Plan) → Accepts p (now (plan .entry)) (now (words .entry)) (now (rows .entry)) (take (j + 1) (now (tables .entry))) → Answers (answer-in form (length (now (out .entry))) (accepted p)) r (now (out .entry)) (now (out .exit))) × (j < length (now (tables .entry))) ⌝ }
+    requires { ⌜ Room (now plan) (now words) (now rows) (now tables) (now above) ⌝ }
+    ensures { λ r. ⌜ Answers (answer-in form (length (now (out .entry))) (outcome (now (plan .entry)))) r (now (out .entry)) (now (out .exit)) ⌝ }
 {
-    answer_tables(out, form, plan, words, rows, tables, j)
+    let r = refusals::read_into(plan, words, rows, tables, above);
+    match r {
+        Laid::Refused(number) => Emitted::Refused { number },
+        Laid::Held(_rows, j) => answer_tables(out, form, plan, words, rows, tables, draft, j),
+    }
 }
 
-fn answer_plan(plan: &[u8], out: &mut [u8], form: Form) -> Emitted
+// The buffers for a plan of up to 1,024 bytes.
+fn answer_small(plan: &[u8], out: &mut [u8], form: Form) -> Emitted
+    requires { ⌜ length (now plan) ≤ 1024 ⌝ }
+    ensures { λ r. ⌜ Answers (answer-in form (length (now (out .entry))) (outcome (now (plan .entry)))) r (now (out .entry)) (now (out .exit)) ⌝ }
+{
+    let mut words = [0u32; 1024];
+    let mut rows = [0u32; 513];
+    let mut tables = [0u32; 257];
+    let mut above = [0u8; 514];
+    let mut draft = [0u8; 4096];
+    answer_read(
+        plan,
+        out,
+        form,
+        &mut words,
+        &mut rows,
+        &mut tables,
+        &mut above,
+        &mut draft,
+    )
+}
+
+// Of up to 8,192.
+fn answer_middle(plan: &[u8], out: &mut [u8], form: Form) -> Emitted
+    requires { ⌜ length (now plan) ≤ 8192 ⌝ }
+    ensures { λ r. ⌜ Answers (answer-in form (length (now (out .entry))) (outcome (now (plan .entry)))) r (now (out .entry)) (now (out .exit)) ⌝ }
+{
+    let mut words = [0u32; 8192];
+    let mut rows = [0u32; 4097];
+    let mut tables = [0u32; 2049];
+    let mut above = [0u8; 4098];
+    let mut draft = [0u8; 32768];
+    answer_read(
+        plan,
+        out,
+        form,
+        &mut words,
+        &mut rows,
+        &mut tables,
+        &mut above,
+        &mut draft,
+    )
+}
+
+// Of any length. A long text is measured without a draft: the stack is kept for nested expressions.
+fn answer_large(plan: &[u8], out: &mut [u8], form: Form) -> Emitted
     ensures { λ r. ⌜ Answers (answer-in form (length (now (out .entry))) (outcome (now (plan .entry)))) r (now (out .entry)) (now (out .exit)) ⌝ }
 {
     let mut words = [0u32; 65536];
     let mut rows = [0u32; 32769];
     let mut tables = [0u32; 16385];
-    let r = refusals::read(plan, &mut words, &mut rows, &mut tables);
-    match r {
-        Laid::Refused(number) => Emitted::Refused { number },
-        Laid::Held(_rows, j) => answer_read(out, form, plan, &words, &rows, &tables, j),
+    let mut above = [0u8; 32770];
+    let mut draft = [0u8; 1];
+    answer_read(
+        plan,
+        out,
+        form,
+        &mut words,
+        &mut rows,
+        &mut tables,
+        &mut above,
+        &mut draft,
+    )
+}
+
+// Buffers that are long enough for each plan take longer to clear than a small plan to answer.
+fn answer_plan(plan: &[u8], out: &mut [u8], form: Form) -> Emitted
+    ensures { λ r. ⌜ Answers (answer-in form (length (now (out .entry))) (outcome (now (plan .entry)))) r (now (out .entry)) (now (out .exit)) ⌝ }
+{
+    if plan.len() <= 1024 {
+        return answer_small(plan, out, form);
     }
+    if plan.len() <= 8192 {
+        return answer_middle(plan, out, form);
+    }
+    answer_large(plan, out, form)
 }
 
 // The whole module of a plan.

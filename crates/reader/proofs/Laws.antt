@@ -13,14 +13,13 @@ use borrow.Author.Tests.{le-leb, lt-leb}
 use Rattle.text.specs.Split.{split}
 use Rattle.plan.specs.Plan.{Plan}
 use Rattle.plan.specs.Layout.{_⊛_, only, read}
-use Rattle.plan.specs.Refusal.{every, allowed, fits-length, bytes-allowed, Outcome, refused, accepted, judged, laid-out, outcome, number-of}
+use Rattle.plan.specs.Refusal.{every, allowed, fits-length, bytes-allowed, Outcome, refused, accepted}
 use Rattle.layout.specs.Scan.{Tables, scan, shaped, laid-tables, sort-at, Done, Fill}
 use Rattle.layout.specs.declared.Filled.the-variants.{To, Bad}
 use Rattle.layout.specs.View.{tables-of, plan-of-tables, plan-held, Indexed}
 use Rattle.layout.proofs.Cuts.{tables-are, indexed}
 use Rattle.layout.proofs.Read.{read-law}
 use Rattle.reader.specs.Reading.{of-layout, reading, Says}
-use Rattle.reader.specs.declared.Laid.{Laid}
 use Rattle.reader.specs.declared.Laid.the-variants.{Refused, Held}
 
 -- bytes
@@ -91,39 +90,11 @@ pub says-refused : (s words rows tables : List ℕ) (n : ℕ) → reading s ≡ 
 unfolding Says
 says-refused s words rows tables n e = rw e refl
 
-pub says-held : (s words rows tables : List ℕ) (n j : ℕ) → reading s ≡ accepted (plan-held s words rows tables n j) → Indexed tables n j → sort-at j ≡ 7 → 2 * n ≤ length s → 4 * j ≤ length s
+pub says-held : (s words rows tables : List ℕ) (n j : ℕ) → reading s ≡ accepted (plan-held s words rows tables n j) → Indexed tables n j → sort-at j ≡ 7 → 2 * n ≤ length s → 4 * j ≤ length s → j < length tables
     → Says (reading s) s (Held n j) words rows tables
 unfolding Says
-says-held s words rows tables n j e i w h g = rw e (record { is = refl; index = i; whole = w; few-rows = h; few-tables = g })
+says-held s words rows tables n j e i w h g l = rw e (record { is = refl; index = i; whole = w; few-rows = h; few-tables = g; held = l })
 
 pub first-zero : (l : List ℕ) → 0 < length l → take 1 (set l 0 0) ≡ 0 ∷ []
 first-zero [] h = absurd (omega arith)
 first-zero (x ∷ l) h = refl
-
-pub number-refused : (o : Outcome) (s : List ℕ) (r : Laid) (words rows tables : List ℕ) (n : ℕ) → Says o s r words rows tables → r ≡ Refused n → n ≡ number-of o
-unfolding Says
-number-refused (refused m) s (Refused k) words rows tables n h e = let q : k ≡ n = cc in omega arith
-number-refused (refused m) s (Held k j) words rows tables n h e = absurd h
-number-refused (accepted p) s (Refused k) words rows tables n h e = absurd h
-number-refused (accepted p) s (Held k j) words rows tables n h e = let z : _≡_ {A = ℕ} 0 1 = cc in absurd (omega arith)
-
-pub number-held : (o : Outcome) (s : List ℕ) (r : Laid) (words rows tables : List ℕ) (n j : ℕ) → Says o s r words rows tables → r ≡ Held n j → 0 ≡ number-of o
-unfolding Says
-number-held (refused m) s (Refused k) words rows tables n j h e = let z : _≡_ {A = ℕ} 0 1 = cc in absurd (omega arith)
-number-held (refused m) s (Held k i) words rows tables n j h e = absurd h
-number-held (accepted p) s (Refused k) words rows tables n j h e = absurd h
-number-held (accepted p) s (Held k i) words rows tables n j h e = refl
-
--- the definition's outcome goes on from here
-abbrev pub go-on : Outcome → Outcome
-go-on (refused n) = refused n
-go-on (accepted p) = judged p
-
-pub outcome-law : (s : List ℕ) → outcome s ≡ go-on (reading s)
-unfolding outcome reading
-outcome-law s = by-tests (fits-length s) (bytes-allowed s) (read s) where
-  by-tests : (b c : Bool) (o : Option Plan) → cond b (cond c (laid-out o) (refused 2)) (refused 1) ≡ go-on (cond b (cond c (of-layout o) (refused 2)) (refused 1))
-  by-tests false c o = refl
-  by-tests true false o = refl
-  by-tests true true none = refl
-  by-tests true true (some p) = refl

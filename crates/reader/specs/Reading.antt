@@ -1,5 +1,5 @@
 -- What the reader answers: the refusals 1 to 3, and the plan that the buffers hold. Assumes nothing: these are definitions.
-use Prim.Native.Nat.{ℕ, _*_, _≤_}
+use Prim.Native.Nat.{ℕ, _+_, _*_, _≤_, _<_, min}
 use mathlib.Core.Path.{_≡_}
 use mathlib.Core.Bool.{cond}
 use mathlib.Core.Option.{Option, some, none}
@@ -21,6 +21,11 @@ of-layout (some p) = accepted p
 unfoldable pub reading : List ℕ → Outcome
 reading s = cond (fits-length s) (cond (bytes-allowed s) (of-layout (read s)) (refused 2)) (refused 1)
 
+-- Buffers that are long enough for a plan: a row has no more words than its line has bytes with the LF, and at least two bytes;
+-- a table has four at least, its names line and the LF. `above` has an entry for each row, and two more.
+abbrev pub Room : List ℕ → List ℕ → List ℕ → List ℕ → List ℕ → Type 0
+Room s words rows tables above = (min (length s) 65536 ≤ length words) × (min (length s) 65536 + 2 ≤ 2 * length rows) × (min (length s) 65536 + 4 ≤ 4 * length tables) × (min (length s) 65536 + 4 ≤ 2 * length above)
+
 -- the buffers hold the plan p: n rows in j tables
 pub record Holding (p : Plan) (s words rows tables : List ℕ) (n j : ℕ) : Type 0 where
   pub is : plan-held s words rows tables n j ≡ p
@@ -28,6 +33,7 @@ pub record Holding (p : Plan) (s words rows tables : List ℕ) (n j : ℕ) : Typ
   pub whole : sort-at j ≡ 7
   pub few-rows : 2 * n ≤ length s
   pub few-tables : 4 * j ≤ length s
+  pub held : j < length tables
 
 unfoldable pub Says : Outcome → List ℕ → Laid → List ℕ → List ℕ → List ℕ → Type 0
 Says (refused n) s (Refused m) words rows tables = m ≡ n

@@ -2,10 +2,8 @@
 use layout::Filled;
 ghost use mathlib.Core.Path.{_≡_};
 ghost use mathlib.Core.Bool.{_&&_};
-ghost use Prim.Native.Nat.{_≤_};
-ghost use lib.ListN.{length};
-ghost use Rattle.plan.specs.Refusal.{allowed, bytes-allowed, number-of};
-ghost use Rattle.reader.specs.Reading.{reading, Says};
+ghost use Rattle.plan.specs.Refusal.{allowed, bytes-allowed};
+ghost use Rattle.reader.specs.Reading.{reading, Room, Says};
 
 // The number of a refusal, or how many rows and tables the buffers hold.
 pub enum Laid {
@@ -45,9 +43,15 @@ fn all_allowed(s: &[u8]) -> bool
     good
 }
 
-// Reads a plan into buffers that are long enough.
-fn read_into(plan: &[u8], words: &mut [u32], rows: &mut [u32], tables: &mut [u32]) -> Laid
-    requires { ⌜ (65536 ≤ length (now words)) × (32769 ≤ length (now rows)) × (16385 ≤ length (now tables)) ⌝ }
+// Reads a plan into buffers that are long enough for it; `above` is used for the levels of blocks.
+pub fn read_into(
+    plan: &[u8],
+    words: &mut [u32],
+    rows: &mut [u32],
+    tables: &mut [u32],
+    above: &mut [u8],
+) -> Laid
+    requires { ⌜ Room (now plan) (now words) (now rows) (now tables) (now above) ⌝ }
     ensures { λ r. ⌜ Says (reading (now (plan .entry))) (now (plan .entry)) r (now (words .exit)) (now (rows .exit)) (now (tables .exit)) ⌝ }
 {
     if 65536 < plan.len() {
@@ -62,36 +66,8 @@ fn read_into(plan: &[u8], words: &mut [u32], rows: &mut [u32], tables: &mut [u32
     let Filled::To(_, n, j) = f else {
         return Laid::Refused(3);
     };
-    let mut above = [0u8; 32770];
-    if !levels::all_fit(words, rows, tables, n, j, &mut above) {
+    if !levels::all_fit(words, rows, tables, n, j, above) {
         return Laid::Refused(3);
     }
     Laid::Held(n, j)
-}
-
-// Reads a plan into the buffers. A row has no more words than its line has bytes with the LF, and at least two bytes;
-// a table has four at least, its names line and the LF.
-pub fn read(
-    plan: &[u8],
-    words: &mut [u32; 65536],
-    rows: &mut [u32; 32769],
-    tables: &mut [u32; 16385],
-) -> Laid
-    ensures { λ r. ⌜ Says (reading (now (plan .entry))) (now (plan .entry)) r (now (words .exit)) (now (rows .exit)) (now (tables .exit)) ⌝ }
-{
-    read_into(plan, words, rows, tables)
-}
-
-// The lowest of the refusals 1 to 3, or 0.
-pub fn refused(plan: &[u8]) -> u32
-    ensures { λ r. ⌜ r ≡ number-of (reading (now (plan .entry))) ⌝ }
-{
-    let mut words = [0u32; 65536];
-    let mut rows = [0u32; 32769];
-    let mut tables = [0u32; 16385];
-    let r = read_into(plan, &mut words, &mut rows, &mut tables);
-    match r {
-        Laid::Refused(n) => n,
-        Laid::Held(_rows, _tables) => 0,
-    }
 }

@@ -18,50 +18,6 @@ use Rattle.view.specs.Tables.{plan-in}
 use Rattle.refusals.specs.Answered.{answered}
 use Rattle.view.proofs.Held.{plan-is}
 
--- the outcome goes on from the reader's
-abbrev judged-of : Outcome → ℕ
-judged-of (refused n) = n
-judged-of (accepted p) = number-of (judged p)
-
-goes-on : (s : List ℕ) → judged-of (reading s) ≡ refusal s
-unfolding reading refusal outcome
-goes-on s = by-tests (fits-length s) (bytes-allowed s) (read s) where
-  by-tests : (a b : Bool) (p : Option Plan) → judged-of (cond a (cond b (of-layout p) (refused 2)) (refused 1)) ≡ number-of (cond a (cond b (laid-out p) (refused 2)) (refused 1))
-  by-tests true true none = refl
-  by-tests true true (some p) = refl
-  by-tests true false p = refl
-  by-tests false b p = refl
-
-module _ (s words rows tables : List ℕ) where
-  pub refused-early : (n : ℕ) → Says (reading s) s (Refused n) words rows tables → n ≡ refusal s
-  unfolding Says
-  refused-early n h = by-outcome (reading s) h ∙ goes-on s where
-    by-outcome : (o : Outcome) → Says o s (Refused n) words rows tables → n ≡ judged-of o
-    by-outcome (refused m) h = h
-    by-outcome (accepted p) h = absurd h
-
-  pub few-tables : (n j : ℕ) → Says (reading s) s (Held n j) words rows tables → 4 * j ≤ length s
-  unfolding Says
-  few-tables n j h = by-outcome (reading s) h where
-    by-outcome : (o : Outcome) → Says o s (Held n j) words rows tables → 4 * j ≤ length s
-    by-outcome (refused m) h = absurd h
-    by-outcome (accepted p) h = h .few-tables
-
-  pub judged-late : (n j r : ℕ) → Says (reading s) s (Held n j) words rows tables → j < length tables
-      → r ≡ number-of (judged (plan-in s words rows (take (j + 1) tables))) → r ≡ refusal s
-  unfolding Says
-  judged-late n j r h l q = q ∙ by-outcome (reading s) h ∙ goes-on s where
-    by-outcome : (o : Outcome) → Says o s (Held n j) words rows tables → number-of (judged (plan-in s words rows (take (j + 1) tables))) ≡ judged-of o
-    by-outcome (refused m) h = absurd h
-    by-outcome (accepted p) h = ap (λ (p : Plan). number-of (judged p)) (sym (plan-is words rows tables n j (h .index) l s) ∙ h .is)
-
-pub read-short : (s : List ℕ) (n j : ℕ) (words rows tables : List ℕ) → Says (reading s) s (Held n j) words rows tables → length s ≤ 65536
-unfolding Says reading fits-length
-read-short s n j words rows tables h = by-tests (fits-length s) refl (bytes-allowed s) (read s) h where
-  by-tests : (a : Bool) → fits-length s ≡ a → (b : Bool) (p : Option Plan) → Says (cond a (cond b (of-layout p) (refused 2)) (refused 1)) s (Held n j) words rows tables → length s ≤ 65536
-  by-tests true q b p h = leb-true (length s) 65536 q
-  by-tests false q b p h = absurd h
-
 -- what the checks 4 to 10 make of a plan
 data Result (p : Plan) : Outcome → Type 0 where
   passes : Result p (accepted p)
@@ -114,12 +70,28 @@ module _ (s words rows tables : List ℕ) where
   by-result n j passes h = h
   by-result n j (turned k g) h = rw (ne-eqb k 0 (λ q. absurd (omega arith))) refl
 
-  pub says-late : (n j r : ℕ) → Says (reading s) s (Held n j) words rows tables → j < length tables
+  pub held : (o : Outcome) (n j : ℕ) → Says o s (Held n j) words rows tables → j < length tables
+  unfolding Says
+  held (refused m) n j h = absurd h
+  held (accepted p) n j h = h .held
+
+  pub says-late : (n j r : ℕ) → Says (reading s) s (Held n j) words rows tables
       → r ≡ number-of (judged (plan-in s words rows (take (j + 1) tables))) → Says (outcome s) s (answered r n j) words rows tables
   unfolding Says
-  says-late n j r h l q = rw (sym (outcome-is s)) (by-outcome (reading s) h) where
+  says-late n j r h q = rw (sym (outcome-is s)) (by-outcome (reading s) h) where
     by-outcome : (o : Outcome) → Says o s (Held n j) words rows tables → Says (go-on o) s (answered r n j) words rows tables
     by-outcome (refused m) h = absurd h
     by-outcome (accepted p) h =
-        let e : r ≡ number-of (judged p) = q ∙ ap (λ (p : Plan). number-of (judged p)) (sym (plan-is words rows tables n j (h .index) l s) ∙ h .is) in
+        let e : r ≡ number-of (judged p) = q ∙ ap (λ (p : Plan). number-of (judged p)) (sym (plan-is words rows tables n j (h .index) (h .held) s) ∙ h .is) in
         rw e (by-result n j (result p) h)
+
+-- the number of the reader's answer
+pub said-refused : (o : Outcome) (s words rows tables : List ℕ) (n : ℕ) → Says o s (Refused n) words rows tables → n ≡ number-of o
+unfolding Says
+said-refused (refused m) s words rows tables n h = h
+said-refused (accepted p) s words rows tables n h = absurd h
+
+pub said-held : (o : Outcome) (s words rows tables : List ℕ) (n j : ℕ) → Says o s (Held n j) words rows tables → 0 ≡ number-of o
+unfolding Says
+said-held (refused m) s words rows tables n j h = absurd h
+said-held (accepted p) s words rows tables n j h = refl

@@ -2,10 +2,10 @@
 use reader::Laid;
 ghost use mathlib.Core.Path.{_≡_};
 ghost use mathlib.Core.List.{List};
-ghost use Prim.Native.Nat.{ℕ, _+_, _<_};
+ghost use Prim.Native.Nat.{ℕ, _+_, _≤_, _<_};
 ghost use lib.ListN.{length, take};
-ghost use Rattle.plan.specs.Refusal.{judged, number-of, outcome, refusal};
-ghost use Rattle.reader.specs.Reading.{Says};
+ghost use Rattle.plan.specs.Refusal.{Outcome, judged, number-of, outcome, refusal};
+ghost use Rattle.reader.specs.Reading.{Room, Says};
 ghost use Rattle.refusals.specs.Answered.{answered};
 ghost use Rattle.view.specs.Tables.{plan-in};
 
@@ -18,14 +18,6 @@ fn judge_first(words: &[u32], rows: &[u32], tables: &[u32], j: usize) -> u32
     exists::judge(words, rows, &tables[..end])
 }
 
-// The same for buffers of the reader's lengths, which are known of arrays.
-fn judge_held(words: &[u32; 65536], rows: &[u32; 32769], tables: &[u32; 16385], j: usize) -> u32
-    requires { ⌜ j < 16385 ⌝ }
-    ensures { λ r. ⌜ ((plan : List ℕ) → r ≡ number-of (judged (plan-in plan (now (words .entry)) (now (rows .entry)) (take (j + 1) (now (tables .entry)))))) × (j < length (now (tables .entry))) ⌝ }
-{
-    judge_first(words, rows, tables, j)
-}
-
 // The reader's answer, where the number of the refusals 4 to 10 is known.
 fn told(number: u32, rows: usize, tables: usize) -> Laid
     ensures { λ r. ⌜ r ≡ answered number rows tables ⌝ }
@@ -36,7 +28,29 @@ fn told(number: u32, rows: usize, tables: usize) -> Laid
     Laid::Refused(number)
 }
 
-// Reads a plan into the buffers and judges it: the number of its lowest refusal, or how many rows and tables the buffers hold.
+// Reads a plan into buffers that are long enough for it and judges it: the number of its lowest refusal, or how many rows and
+// tables the buffers hold.
+pub fn read_into(
+    plan: &[u8],
+    words: &mut [u32],
+    rows: &mut [u32],
+    tables: &mut [u32],
+    above: &mut [u8],
+) -> Laid
+    requires { ⌜ Room (now plan) (now words) (now rows) (now tables) (now above) ⌝ }
+    ensures { λ r. ⌜ Says (outcome (now (plan .entry))) (now (plan .entry)) r (now (words .exit)) (now (rows .exit)) (now (tables .exit)) ⌝ }
+{
+    let r = reader::read_into(plan, words, rows, tables, above);
+    match r {
+        Laid::Refused(n) => Laid::Refused(n),
+        Laid::Held(n, j) => {
+            let number = judge_first(words, rows, tables, j);
+            told(number, n, j)
+        }
+    }
+}
+
+// The same into buffers that are long enough for each plan.
 pub fn read(
     plan: &[u8],
     words: &mut [u32; 65536],
@@ -45,26 +59,47 @@ pub fn read(
 ) -> Laid
     ensures { λ r. ⌜ Says (outcome (now (plan .entry))) (now (plan .entry)) r (now (words .exit)) (now (rows .exit)) (now (tables .exit)) ⌝ }
 {
-    let r = reader::read(plan, words, rows, tables);
-    match r {
-        Laid::Refused(n) => Laid::Refused(n),
-        Laid::Held(n, j) => {
-            let number = judge_held(words, rows, tables, j);
-            told(number, n, j)
-        }
+    let mut above = [0u8; 32770];
+    read_into(plan, words, rows, tables, &mut above)
+}
+
+// The number that the reader's answer is.
+fn number(laid: Laid) -> u32
+    ensures { λ r. ⌜ ((o : Outcome) (s words rows tables : List ℕ) → Says o s laid words rows tables → r ≡ number-of o) ⌝ }
+{
+    match laid {
+        Laid::Refused(n) => n,
+        Laid::Held(_rows, _tables) => 0,
     }
 }
 
-// The number of the lowest refusal of a plan's bytes, 0 for none.
-pub fn refused(plan: &[u8]) -> u32
+fn refused_small(plan: &[u8]) -> u32
+    requires { ⌜ length (now plan) ≤ 4096 ⌝ }
+    ensures { λ r. ⌜ r ≡ refusal (now (plan .entry)) ⌝ }
+{
+    let mut words = [0u32; 4096];
+    let mut rows = [0u32; 2049];
+    let mut tables = [0u32; 1025];
+    let mut above = [0u8; 2050];
+    number(read_into(plan, &mut words, &mut rows, &mut tables, &mut above))
+}
+
+fn refused_large(plan: &[u8]) -> u32
     ensures { λ r. ⌜ r ≡ refusal (now (plan .entry)) ⌝ }
 {
     let mut words = [0u32; 65536];
     let mut rows = [0u32; 32769];
     let mut tables = [0u32; 16385];
-    let r = reader::read(plan, &mut words, &mut rows, &mut tables);
-    match r {
-        Laid::Refused(n) => n,
-        Laid::Held(_rows, j) => judge_held(&words, &rows, &tables, j),
+    number(read(plan, &mut words, &mut rows, &mut tables))
+}
+
+// The number of the lowest refusal of a plan's bytes, 0 for none. Most plans are small: buffers that are long enough for each
+// plan take longer to clear than a small plan to read.
+pub fn refused(plan: &[u8]) -> u32
+    ensures { λ r. ⌜ r ≡ refusal (now (plan .entry)) ⌝ }
+{
+    if plan.len() <= 4096 {
+        return refused_small(plan);
     }
+    refused_large(plan)
 }

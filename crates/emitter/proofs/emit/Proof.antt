@@ -7,15 +7,15 @@ use Rattle.emitter.proofs.emit.Reads as reads
 use Rattle.emitter.proofs.emit.Lts as lts
 use Rattle.emitter.proofs.answer_plan.Reads as answer-plan-reads
 
--- src/lib.rt:175:5
+-- src/lib.rt:277:5
 answer-plan-requires : tie.Need-answer-plan-requires
 answer-plan-requires c κs = search needs
 
--- src/lib.rt:172:1
+-- src/lib.rt:274:1
 same-length : tie.Need-same-length
 same-length c = search needs
 
--- src/lib.rt:172:1
+-- src/lib.rt:274:1
 returns : tie.Need-returns
 returns c = rw (whole-is (c .before .before .before .before .before .before .args .plan .now) (length (c .before .before .before .before .before .before .args .out .now))) at (c .before .before .answer-plan .ensures)
 

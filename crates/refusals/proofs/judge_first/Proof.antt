@@ -1,8 +1,7 @@
-use Prim.Native.Nat.{ℕ, _+_, _-_, _*_, _≤_, _<_}
-use mathlib.Core.Path.{_≡_, refl, sym, ap, _∙_}
+use Prim.Native.Nat.{_+_, _≤_}
+use mathlib.Core.Path.{sym}
 use native.Mathlib.Omega.{arith}
-use lib.ListN.{length, length-replicate}
-use Rattle.refusals.proofs.Laws.{refused-early, few-tables, judged-late, read-short}
+use lib.ListN.{length}
 use lib.Seq.{length-take-le}
 use borrow.Author.Needs.{needs}
 use Rattle.refusals.proofs.judge_first.Statement.{statement}
@@ -11,19 +10,19 @@ use Rattle.refusals.proofs.judge_first.Reads as reads
 use Rattle.refusals.proofs.judge_first.Lts as lts
 use Rattle.exists.proofs.judge.Reads as judge-reads
 
--- src/lib.rt:15:15
+-- src/lib.rt:17:15
 add-end : tie.Need-add-end
 add-end c = search needs
 
--- src/lib.rt:16:32
+-- src/lib.rt:18:32
 slice-aggregate-judge : tie.Need-slice-aggregate-judge
 slice-aggregate-judge c = let l : c .before .before .before .before .args .j + 1 ≤ length (c .before .before .before .before .args .tables .now) = omega arith in sym (length-take-le (c .before .before .before .before .args .j + 1) (c .before .before .before .before .args .tables .now) l)
 
--- src/lib.rt:16:5
+-- src/lib.rt:18:5
 judge-requires : tie.Need-judge-requires
 judge-requires c κs = search needs
 
--- src/lib.rt:11:1
+-- src/lib.rt:13:1
 returns : tie.Need-returns
 returns c = search needs
 
