@@ -22,7 +22,7 @@ use Rattle.splitting.specs.Continue.{NotDeeper, Inside, inside-left}
 use Rattle.emits.specs.Place.{Place, over, place, place-over, count-over, place-cases}
 use Rattle.emits.specs.Place as emits
 use Rattle.emits.specs.Rows.{run-parts, Parts-emit, run-row, run-walk, Row-emits, Walk-emits, Emitting, emitting-row}
-use Rattle.steps.specs.Leads.{Leads}
+use Rattle.step_parts.specs.Leads.{Leads}
 
 -- where the bindings of b have names, m closures are numbered and the frames fs are open; the marks of references are in the place
 unfoldable pub standing : Marks → ℕ → List Frame → State

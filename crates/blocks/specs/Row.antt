@@ -20,8 +20,8 @@ use Rattle.view.specs.Told.{control-flow-of, constraint-of}
 use Rattle.emits.specs.Rows.{Parts-emit}
 use Rattle.context.specs.Closing.{opening-text}
 use Rattle.context.specs.Laws.{parts-puts, opening-is, opening-odds}
-use Rattle.steps.specs.Leads.{Leads, _⟫ₗ_, leads-none, leads-same, leads-parts}
-use Rattle.steps.specs.Facts.{Facts}
+use Rattle.step_parts.specs.Leads.{Leads, _⟫ₗ_, leads-none, leads-same, leads-parts}
+use Rattle.step_parts.specs.Facts.{Facts}
 use Rattle.blocks.specs.Own.{bind-order, check, check-restores, joined, own-joined, step-is, arm-is}
 use Rattle.blocks.specs.Middle.{Owned}
 

@@ -27,7 +27,7 @@ use Rattle.codegen.specs.Writer.{Marks, Writer, Said, said}
 use Rattle.codegen.specs.Pattern.{bind-all}
 use Rattle.codegen.specs.Block.{Body, Frame, closures, Purpose, one-arm, arms-of, Own, arm-count, one-arm-head, match-head, loop-head, opening, nothing-written, matching, emit-check}
 use Rattle.codegen.specs.Block as block
-use Rattle.steps.specs.Leads.{Leads, Lines-lead, said-line, said-refs, lines-none, lines-same, lines-words}
+use Rattle.step_parts.specs.Leads.{Leads, Lines-lead, said-line, said-refs, lines-none, lines-same, lines-words}
 
 -- THE ROWS after a step
 

@@ -18,7 +18,7 @@ use Rattle.view.specs.Told.{control-flow-of}
 use Rattle.view.proofs.Laws.{cell-past, cell-at}
 use Rattle.codegen.specs.Writer.{Marks, insert, said}
 use Rattle.codegen.specs.Block.{Body, Frame, Line, let-line, lets}
-use Rattle.steps.specs.Leads.{Lines-lead, Lines-rest, said-line, said-refs, _⟫ᵢ_, lines-none}
+use Rattle.step_parts.specs.Leads.{Lines-lead, Lines-rest, said-line, said-refs, _⟫ᵢ_, lines-none}
 
 -- THE BINDINGS that have names after the lets
 

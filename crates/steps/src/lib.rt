@@ -1,11 +1,8 @@
 // What one row of a block writes: codegen.rs 672, `emit_block_contents`, without the walk over the rows.
 pub mod arm;
-pub mod buffer;
 pub mod check;
-pub mod heads;
 pub mod lets;
 pub mod matches;
-pub mod returns;
 
 // What a frame is for: a match of one arm, another match with its source, an arm of such a match, or an `equal` or `loop`.
 pub enum Purpose {

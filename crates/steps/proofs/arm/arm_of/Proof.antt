@@ -1,12 +1,12 @@
 use mathlib.Core.Path.{_≡_, refl, sym, ap, _∙_}
 use native.Mathlib.Omega.{arith}
-use Rattle.steps.specs.Leads.{lines-words}
+use Rattle.step_parts.specs.Leads.{lines-words}
 use Rattle.emits.specs.Marks.{set-of}
 use Rattle.view.specs.Told.{constraint-told}
 use lib.ListN.{drop}
 use Rattle.rows.specs.View.{patterns-in}
 use Rattle.layout.specs.View.{cut}
-use Rattle.steps.proofs.HeadLaws.{emits-arm-head}
+use Rattle.step_parts.proofs.HeadLaws.{emits-arm-head}
 use Rattle.codegen.specs.Block.{opening, emit-arm}
 use borrow.Author.Needs.{needs}
 use Rattle.steps.proofs.arm.arm_of.Statement.{statement}

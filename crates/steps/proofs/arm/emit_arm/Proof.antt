@@ -1,7 +1,7 @@
 use mathlib.Core.Path.{_≡_, refl, sym, ap, _∙_}
 use native.Mathlib.Omega.{arith}
 use Rattle.codegen.specs.Block.{opening, nothing-written, emit-arm}
-use Rattle.steps.specs.Leads.{lines-none}
+use Rattle.step_parts.specs.Leads.{lines-none}
 use borrow.Author.Needs.{needs}
 use Rattle.steps.proofs.arm.emit_arm.Statement.{statement}
 use Rattle.steps.proofs.arm.emit_arm.Tie as tie

@@ -18,7 +18,7 @@ use Rattle.steps.proofs.check.after.Reads as after-reads
 use Rattle.steps.proofs.check.emit_equal.Reads as emit-equal-reads
 use Rattle.steps.proofs.check.emit_loop.Reads as emit-loop-reads
 use Rattle.steps.proofs.matches.emit_match.Reads as emit-match-reads
-use Rattle.steps.proofs.returns.emit_return.Reads as emit-return-reads
+use Rattle.returns.proofs.emit_return.Reads as emit-return-reads
 use Rattle.view.proofs.block.control_flow_at.Reads as control-flow-at-reads
 use Rattle.view.proofs.word.Reads as word-reads
 

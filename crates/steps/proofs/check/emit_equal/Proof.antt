@@ -1,13 +1,13 @@
 use mathlib.Core.Path.{_≡_, refl, sym, ap, _∙_}
 use native.Mathlib.Omega.{arith}
-use Rattle.steps.specs.Leads.{lines-words}
+use Rattle.step_parts.specs.Leads.{lines-words}
 use Rattle.codegen.specs.Block.{opening, emit-check}
 use borrow.Author.Needs.{needs}
 use Rattle.steps.proofs.check.emit_equal.Statement.{statement}
 use Rattle.steps.proofs.check.emit_equal.Tie as tie
 use Rattle.steps.proofs.check.emit_equal.Reads as reads
 use Rattle.steps.proofs.check.emit_equal.Lts as lts
-use Rattle.steps.proofs.heads.equal_head.Reads as equal-head-reads
+use Rattle.step_parts.proofs.heads.equal_head.Reads as equal-head-reads
 use Rattle.text.proofs.sink.put_byte.Reads as put-byte-reads
 use Rattle.text.proofs.sink.put_indent.Reads as put-indent-reads
 

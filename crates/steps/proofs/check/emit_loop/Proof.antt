@@ -9,7 +9,7 @@ use Rattle.steps.proofs.check.emit_loop.Reads as reads
 use Rattle.steps.proofs.check.emit_loop.Lts as lts
 use Rattle.emits.proofs.stablemapset.insert.Reads as insert-reads
 use Rattle.expr_parts.proofs.binding_row.Reads as binding-row-reads
-use Rattle.steps.proofs.heads.loop_head.Reads as loop-head-reads
+use Rattle.step_parts.proofs.heads.loop_head.Reads as loop-head-reads
 use Rattle.text.proofs.sink.put_byte.Reads as put-byte-reads
 use Rattle.text.proofs.sink.put_indent.Reads as put-indent-reads
 use Rattle.view.proofs.word.Reads as word-reads

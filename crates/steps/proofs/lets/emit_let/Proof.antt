@@ -1,6 +1,6 @@
 use mathlib.Core.Path.{_≡_, refl, sym, ap, _∙_}
 use native.Mathlib.Omega.{arith}
-use Rattle.steps.specs.Leads.{lines-words}
+use Rattle.step_parts.specs.Leads.{lines-words}
 use borrow.Author.Needs.{needs}
 use Rattle.steps.proofs.lets.emit_let.Statement.{statement}
 use Rattle.steps.proofs.lets.emit_let.Tie as tie

@@ -8,8 +8,8 @@ use lib.ListN.{length, drop}
 use Rattle.plan.specs.Plan.{Environment}
 use Rattle.layout.specs.View.{cut}
 use Rattle.codegen.specs.Block.{Body, Frame, closures, lets}
-use Rattle.steps.specs.Facts.{Facts}
-use Rattle.steps.specs.Leads.{Lines-rest}
+use Rattle.step_parts.specs.Facts.{Facts}
+use Rattle.step_parts.specs.Leads.{Lines-rest}
 use Rattle.steps.proofs.LetLaws.{insert-all, lets-bound, insert-word, insert-end, lets-end, lets-turn, word-small}
 use Rattle.emits.specs.Marks.{set-of}
 use Rattle.steps.proofs.lets.emit_lets.Statement.{statement}

@@ -1,14 +1,14 @@
 use mathlib.Core.Path.{_≡_, refl, sym, ap, _∙_}
 use native.Mathlib.Omega.{arith}
 use Rattle.emits.specs.Marks.{set-of}
-use Rattle.steps.proofs.HeadLaws.{emits-let-line}
+use Rattle.step_parts.proofs.HeadLaws.{emits-let-line}
 use borrow.Author.Needs.{needs}
 use Rattle.steps.proofs.lets.let_line.Statement.{statement}
 use Rattle.steps.proofs.lets.let_line.Tie as tie
 use Rattle.steps.proofs.lets.let_line.Reads as reads
 use Rattle.steps.proofs.lets.let_line.Lts as lts
 use Rattle.expr.proofs.emit_expr.Reads as emit-expr-reads
-use Rattle.steps.proofs.buffer.let_head.Reads as let-head-reads
+use Rattle.step_parts.proofs.buffer.let_head.Reads as let-head-reads
 use Rattle.text.proofs.sink.put_bytes.Reads as put-bytes-reads
 
 -- src/lets.rt:45:9

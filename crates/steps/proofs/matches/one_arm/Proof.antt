@@ -1,6 +1,6 @@
 use mathlib.Core.Path.{_≡_, refl, sym, ap, _∙_}
 use native.Mathlib.Omega.{arith}
-use Rattle.steps.specs.Leads.{lines-words}
+use Rattle.step_parts.specs.Leads.{lines-words}
 use Rattle.emits.specs.Marks.{set-of}
 use borrow.Author.Needs.{needs}
 use Rattle.steps.proofs.matches.one_arm.Statement.{statement}
@@ -8,7 +8,7 @@ use Rattle.steps.proofs.matches.one_arm.Tie as tie
 use Rattle.steps.proofs.matches.one_arm.Reads as reads
 use Rattle.steps.proofs.matches.one_arm.Lts as lts
 use Rattle.pattern.proofs.bind.bind_all.Reads as bind-all-reads
-use Rattle.steps.proofs.heads.one_arm_head.Reads as one-arm-head-reads
+use Rattle.step_parts.proofs.heads.one_arm_head.Reads as one-arm-head-reads
 use Rattle.text.proofs.sink.put_byte.Reads as put-byte-reads
 use Rattle.text.proofs.sink.put_indent.Reads as put-indent-reads
 

@@ -1,12 +1,12 @@
 use mathlib.Core.Path.{_≡_, refl, sym, ap, _∙_}
 use native.Mathlib.Omega.{arith}
-use Rattle.steps.specs.Leads.{lines-words}
+use Rattle.step_parts.specs.Leads.{lines-words}
 use borrow.Author.Needs.{needs}
 use Rattle.steps.proofs.matches.several_arms.Statement.{statement}
 use Rattle.steps.proofs.matches.several_arms.Tie as tie
 use Rattle.steps.proofs.matches.several_arms.Reads as reads
 use Rattle.steps.proofs.matches.several_arms.Lts as lts
-use Rattle.steps.proofs.heads.match_head.Reads as match-head-reads
+use Rattle.step_parts.proofs.heads.match_head.Reads as match-head-reads
 use Rattle.text.proofs.sink.put_byte.Reads as put-byte-reads
 use Rattle.text.proofs.sink.put_indent.Reads as put-indent-reads
 

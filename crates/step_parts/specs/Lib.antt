@@ -1,0 +1,4 @@
+pub mod Callee
+pub mod Facts
+pub mod Leads
+pub mod Loops
