@@ -6,6 +6,7 @@ typical:N   N terms of 40 rules each: a match on an enum, a call, a return
 literals:N  N iterator terms of 500 integer arms, each of which returns an integer
 returns:N   an iterator term of N returns
 deep:N      N matches nested in one another in an iterator term, the arms' bodies split
+bottom:N    31 matches nested in one another, with N returns at level 62, the arms' bodies split
 items       256 types, 1,024 variants, 512 terms, none generated
 explode:N   N bindings, each a struct of two fields that are both the binding before it: a text of more than 2 ** N bytes
 nested:KIND 1,024 bindings nested in one another, all of a kind that is written through its source
@@ -56,13 +57,17 @@ def returns(n):
     return plan("0 0 0 -", SYMS, [], [], ["1 0 1 1 0 in - 0 1"], [(0, ["arg 0 - -"], rows)])
 
 
-def deep(n):
+def deep(n, returns=64):
     """Row 2k matches, its two arms are at level 2k + 1; the second has the next match below it."""
     rows = []
     for k in range(n):
         rows += [f"{2 * k} match 0 - -", f"{2 * k + 1} int 1 {k:032x} -", f"{2 * k + 2} return 0 1 -", f"{2 * k + 1} int 1 {99:032x} -"]
-    rows += [f"{2 * n} return 0 1 -"] * 64
+    rows += [f"{2 * n} return 0 1 -"] * returns
     return plan("0 0 1 2", SYMS, [], [], ["1 0 1 1 0 in - 0 1"], [(0, ["arg 0 - -"], rows)])
+
+
+def bottom(n):
+    return deep(31, n)
 
 
 def items():
@@ -89,7 +94,7 @@ def worked():
 
 
 def main():
-    shapes = {f.__name__: f for f in (worked, typical, literals, returns, deep, items, explode, nested)}
+    shapes = {f.__name__: f for f in (worked, typical, literals, returns, deep, bottom, items, explode, nested)}
     if len(sys.argv) < 2:
         sys.exit(__doc__)
     for shape in sys.argv[1:]:

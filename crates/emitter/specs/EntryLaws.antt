@@ -19,20 +19,19 @@ use Rattle.codegen.specs.OddLaws.{odds-le, odds-le-whole}
 use Rattle.emits.specs.Rows.{Parts-emit}
 use Rattle.splitting.specs.Cases.{and-left, and-right}
 use Rattle.splitting.specs.Accepted.{refused-number}
-use Rattle.reader.specs.Reading.{Holding, Says}
+use Rattle.reader.specs.Reading.{Says}
+use Rattle.refusals.specs.Answered.{Indexes}
 use Rattle.reader.specs.declared.Laid.{Laid}
 use Rattle.reader.specs.declared.Laid.the-variants as laid
-use Rattle.view.specs.Tables.{plan-in, table-rows, environment-in}
-use Rattle.view.proofs.Laws.{cuts-length}
-use Rattle.view.proofs.Plans.{environment-is, variants-count}
+use Rattle.view.specs.Tables.{plan-in}
+use Rattle.view.proofs.Plans.{environment-is}
 use Rattle.view.proofs.Held.{plan-is}
 use Rattle.sema.specs.Holds.{Holds}
 use Rattle.emitter.specs.declared.Emitted.{Emitted}
 use Rattle.emitter.specs.declared.Emitted.the-variants.{Refused, Text}
 use Rattle.emitter.specs.Answered.{Answers, uncounted, items-answer}
-use Rattle.emit_terms.specs.Accepted.{accepted-passes, accepted-fits}
-use Rattle.emitter.specs.Accepted.{few-variants}
-use Rattle.emitter.specs.Held.{Held, Accepts, form-text, form-count, answer-with, answer-in, below}
+use Rattle.emit_terms.specs.Accepted.{accepted-fits}
+use Rattle.emitter.specs.Held.{Held, form-text, form-count, answer-with, answer-in, below}
 use Rattle.emitter.specs.declared.Form.{Form}
 use Rattle.emitter.specs.declared.Form.the-variants.{Whole, Terms, Items}
 use Rattle.emitter.specs.Texts.{Texts, texts-parts, texts-puts, puts-texts, texts-room, texts-fit, texts-written}
@@ -147,14 +146,14 @@ module _ (f : Form) (s words rows tables : List ℕ) (room : ℕ) (o : List ℕ)
       go (refused m) q = absurd q
       go (accepted p) q = q .held
 
-  pub answers-held : (n j : ℕ) {r : Emitted} {o' : List ℕ} → Says (outcome s) s (laid.Held n j) words rows tables
-      → ((p : Plan) → Accepts p s words rows (take (j + 1) tables) → Answers (answer-in f room (accepted p)) r o o') → Answers (answer-in f room (outcome s)) r o o'
-  unfolding Says
-  answers-held n j {r} {o'} h k = go (outcome s) refl h
+  pub answers-held : (n j : ℕ) {index : List ℕ} {r : Emitted} {o' : List ℕ} → Says (outcome s) s (laid.Held n j) words rows tables → Indexes (laid.Held n j) words rows tables index
+      → ((p : Plan) → Held p s words rows (take (j + 1) tables) index → Answers (answer-in f room (accepted p)) r o o') → Answers (answer-in f room (outcome s)) r o o'
+  unfolding Says Indexes
+  answers-held n j {index} {r} {o'} h i k = go (outcome s) refl h
     where
       go : (x : Outcome) → outcome s ≡ x → Says x s (laid.Held n j) words rows tables → Answers (answer-in f room x) r o o'
       go (refused m) e q = absurd q
-      go (accepted p) e q = k p (record { accepts = e; is = sym (plan-is words rows tables n j (q .index) (q .held) s) ∙ q .is })
+      go (accepted p) e q = k p (record { accepts = e; is = sym (plan-is words rows tables n j (q .index) (q .held) s) ∙ q .is; indexed = i })
 
 -- THE ENVIRONMENT
 
@@ -165,15 +164,3 @@ holds-of {p} {plan} {words} {rows} {tables} h = record {
   indexed = h .indexed;
   others = accepted-fits plan p (h .accepts) .others;
 }
-
--- THE INDEX
-
--- the table of variants has few rows
-pub variant-rows : (words rows tables : List ℕ) → length (table-rows words rows tables 5) ≡ getD tables 6 0 - getD tables 5 0
-unfolding table-rows
-variant-rows words rows tables = cuts-length words rows (getD tables 5 0) (getD tables 6 0 - getD tables 5 0)
-
-pub few-variant-rows : (p : Plan) (plan words rows tables : List ℕ) → Accepts p plan words rows tables → getD tables 6 0 - getD tables 5 0 ≤ 1024
-few-variant-rows p plan words rows tables h =
-    let q : length (p .env .variants) ≡ getD tables 6 0 - getD tables 5 0 = ap (λ (x : Plan). length (x .env .variants)) (sym (h .is)) ∙ ap (λ (e : Environment). length (e .variants)) (environment-is words rows tables plan) ∙ variants-count words rows tables plan ∙ variant-rows words rows tables in
-    omega (arith, few-variants p (accepted-passes plan p (h .accepts)))

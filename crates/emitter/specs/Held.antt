@@ -42,11 +42,6 @@ pub record Held (p : Plan) (plan words rows tables index : List ℕ) : Type 0 wh
   pub is : plan-in plan words rows tables ≡ p
   pub indexed : VariantIndex words rows tables index
 
--- the same without the index
-pub record Accepts (p : Plan) (plan words rows tables : List ℕ) : Type 0 where
-  pub accepts : outcome plan ≡ accepted p
-  pub is : plan-in plan words rows tables ≡ p
-
 -- a position and a count are below one more than the room
 abbrev pub below : ℕ → ℕ → ℕ → Bool
 below at n e = ltb at e && ltb n e

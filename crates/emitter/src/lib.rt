@@ -6,16 +6,14 @@ use emits::Written;
 use reader::Laid;
 use text::sink::put_part;
 ghost use mathlib.Core.Path.{_≡_};
-ghost use mathlib.Core.List.{List};
-ghost use Prim.Native.Nat.{ℕ, _+_, _-_, _≤_, _<_};
-ghost use lib.ListN.{length, getD, take};
+ghost use Prim.Native.Nat.{_+_, _≤_, _<_};
+ghost use lib.ListN.{length, take};
 ghost use Rattle.plan.specs.Plan.{Plan};
 ghost use Rattle.plan.specs.Refusal.{Outcome, accepted, outcome};
 ghost use Rattle.codegen.specs.Answer.{answer, terms-answer};
 ghost use Rattle.reader.specs.Reading.{Room};
-ghost use Rattle.variants.specs.Index.{VariantIndex};
 ghost use Rattle.emitter.specs.Answered.{Answers, items-answer};
-ghost use Rattle.emitter.specs.Held.{Held, Accepts, form-text, form-count, answer-in, below};
+ghost use Rattle.emitter.specs.Held.{Held, form-text, form-count, answer-in, below};
 ghost use Rattle.emitter.specs.Texts.{Texts};
 
 pub enum Emitted {
@@ -123,36 +121,6 @@ fn answer_held(
     }
 }
 
-// Indexes the variants, where there are no more than a plan may have.
-fn index_held(words: &[u32], rows: &[u32], tables: &[u32], index: &mut [u32])
-    ensures { λ _. ⌜ (1281 ≤ length (now (index .entry)) → getD (now (tables .entry)) 6 0 - getD (now (tables .entry)) 5 0 ≤ 1024 → VariantIndex (now (words .entry)) (now (rows .entry)) (now (tables .entry)) (now (index .exit))) ⌝ }
-{
-    if index.len() < 1281 {
-        return;
-    }
-    if 1024 < view::row_count(tables, 5) {
-        return;
-    }
-    variants::index_variants(words, rows, tables, index);
-}
-
-// The same, with the index of the variants made first.
-fn answer_indexed(
-    out: &mut [u8],
-    form: Form,
-    plan: &[u8],
-    words: &[u32],
-    rows: &[u32],
-    tables: &[u32],
-    draft: &mut [u8],
-) -> Emitted
-    ensures { λ r. ⌜ ((p : Plan) → Accepts p (now (plan .entry)) (now (words .entry)) (now (rows .entry)) (now (tables .entry)) → Answers (answer-in form (length (now (out .entry))) (accepted p)) r (now (out .entry)) (now (out .exit))) ⌝ }
-{
-    let mut index = [0u32; 1281];
-    index_held(words, rows, tables, &mut index);
-    answer_held(out, form, plan, words, rows, tables, &index, draft)
-}
-
 // The same for j of the reader's tables.
 fn answer_tables(
     out: &mut [u8],
@@ -161,14 +129,15 @@ fn answer_tables(
     words: &[u32],
     rows: &[u32],
     tables: &[u32],
+    index: &[u32],
     draft: &mut [u8],
     j: usize,
 ) -> Emitted
     requires { ⌜ j < length (now tables) ⌝ }
-    ensures { λ r. ⌜ ((p : Plan) → Accepts p (now (plan .entry)) (now (words .entry)) (now (rows .entry)) (take (j + 1) (now (tables .entry))) → Answers (answer-in form (length (now (out .entry))) (accepted p)) r (now (out .entry)) (now (out .exit))) ⌝ }
+    ensures { λ r. ⌜ ((p : Plan) → Held p (now (plan .entry)) (now (words .entry)) (now (rows .entry)) (take (j + 1) (now (tables .entry))) (now (index .entry)) → Answers (answer-in form (length (now (out .entry))) (accepted p)) r (now (out .entry)) (now (out .exit))) ⌝ }
 {
     let end = j + 1;
-    answer_indexed(out, form, plan, words, rows, &tables[..end], draft)
+    answer_held(out, form, plan, words, rows, &tables[..end], index, draft)
 }
 
 // The answer for any bytes, with buffers that are long enough for them.
@@ -180,15 +149,18 @@ fn answer_read(
     rows: &mut [u32],
     tables: &mut [u32],
     above: &mut [u8],
+    index: &mut [u32; 1281],
     draft: &mut [u8],
 ) -> Emitted
     requires { ⌜ Room (now plan) (now words) (now rows) (now tables) (now above) ⌝ }
     ensures { λ r. ⌜ Answers (answer-in form (length (now (out .entry))) (outcome (now (plan .entry)))) r (now (out .entry)) (now (out .exit)) ⌝ }
 {
-    let r = refusals::read_into(plan, words, rows, tables, above);
+    let r = refusals::read_into(plan, words, rows, tables, above, index);
     match r {
         Laid::Refused(number) => Emitted::Refused { number },
-        Laid::Held(_rows, j) => answer_tables(out, form, plan, words, rows, tables, draft, j),
+        Laid::Held(_rows, j) => {
+            answer_tables(out, form, plan, words, rows, tables, index, draft, j)
+        }
     }
 }
 
@@ -201,6 +173,7 @@ fn answer_small(plan: &[u8], out: &mut [u8], form: Form) -> Emitted
     let mut rows = [0u32; 513];
     let mut tables = [0u32; 257];
     let mut above = [0u8; 514];
+    let mut index = [0u32; 1281];
     let mut draft = [0u8; 4096];
     answer_read(
         plan,
@@ -210,6 +183,7 @@ fn answer_small(plan: &[u8], out: &mut [u8], form: Form) -> Emitted
         &mut rows,
         &mut tables,
         &mut above,
+        &mut index,
         &mut draft,
     )
 }
@@ -223,6 +197,7 @@ fn answer_middle(plan: &[u8], out: &mut [u8], form: Form) -> Emitted
     let mut rows = [0u32; 4097];
     let mut tables = [0u32; 2049];
     let mut above = [0u8; 4098];
+    let mut index = [0u32; 1281];
     let mut draft = [0u8; 32768];
     answer_read(
         plan,
@@ -232,6 +207,7 @@ fn answer_middle(plan: &[u8], out: &mut [u8], form: Form) -> Emitted
         &mut rows,
         &mut tables,
         &mut above,
+        &mut index,
         &mut draft,
     )
 }
@@ -244,6 +220,7 @@ fn answer_large(plan: &[u8], out: &mut [u8], form: Form) -> Emitted
     let mut rows = [0u32; 32769];
     let mut tables = [0u32; 16385];
     let mut above = [0u8; 32770];
+    let mut index = [0u32; 1281];
     let mut draft = [0u8; 1];
     answer_read(
         plan,
@@ -253,6 +230,7 @@ fn answer_large(plan: &[u8], out: &mut [u8], form: Form) -> Emitted
         &mut rows,
         &mut tables,
         &mut above,
+        &mut index,
         &mut draft,
     )
 }

@@ -7,7 +7,7 @@ use mathlib.Core.Option.{Option, some, none}
 use native.Mathlib.Omega.{arith}
 use lib.ListN.{length, take}
 use lib.Dec.{eqb}
-use borrow.Author.Tests.{leb-true, ne-eqb}
+use borrow.Author.Tests.{ne-eqb, eqb-true}
 use Rattle.plan.specs.Plan.{Plan}
 use Rattle.plan.specs.Layout.{read}
 use Rattle.plan.specs.Refusal.{fits-length, bytes-allowed, Outcome, refused, accepted, judged, laid-out, outcome, number-of, refusal, within-most, all-exist, lengths-fit, sources-lower, returns-fit, matches-have-arms, loops-iterate}
@@ -15,7 +15,8 @@ use Rattle.reader.specs.Reading.{of-layout, reading, Holding, Says}
 use Rattle.reader.specs.declared.Laid.{Laid}
 use Rattle.reader.specs.declared.Laid.the-variants.{Refused, Held}
 use Rattle.view.specs.Tables.{plan-in}
-use Rattle.refusals.specs.Answered.{answered}
+use Rattle.variants.specs.Index.{VariantIndex}
+use Rattle.refusals.specs.Answered.{answered, Indexes}
 use Rattle.view.proofs.Held.{plan-is}
 
 -- what the checks 4 to 10 make of a plan
@@ -84,6 +85,19 @@ module _ (s words rows tables : List ℕ) where
     by-outcome (accepted p) h =
         let e : r ≡ number-of (judged p) = q ∙ ap (λ (p : Plan). number-of (judged p)) (sym (plan-is words rows tables n j (h .index) (h .held) s) ∙ h .is) in
         rw e (by-result n j (result p) h)
+
+-- the index of variants
+pub indexes-none : (n : ℕ) (words rows tables index : List ℕ) → Indexes (Refused n) words rows tables index
+unfolding Indexes
+indexes-none n words rows tables index = tt
+
+pub indexes-held : (r n j : ℕ) (words rows tables index : List ℕ) → (r ≡ 0 → VariantIndex words rows (take (j + 1) tables) index) → Indexes (answered r n j) words rows tables index
+unfolding Indexes answered
+indexes-held r n j words rows tables index h = by-test (eqb r 0) refl
+  where
+    by-test : (b : Bool) → eqb r 0 ≡ b → Indexes (cond b (Held n j) (Refused r)) words rows tables index
+    by-test true q = h (eqb-true r 0 q)
+    by-test false q = tt
 
 -- the number of the reader's answer
 pub said-refused : (o : Outcome) (s words rows tables : List ℕ) (n : ℕ) → Says o s (Refused n) words rows tables → n ≡ number-of o
