@@ -152,9 +152,16 @@ fn compare(plans: Vec<Vec<u8>>) -> bool {
     different == 0
 }
 
-/// The least time of several runs, in microseconds. Each run returns its own time.
+/// The least time of many runs, in microseconds: as many as take a tenth of a second, nine at least. Each run returns its own time.
 fn least(mut run: impl FnMut() -> f64) -> f64 {
-    (0..9).map(|_| run()).fold(f64::MAX, f64::min)
+    let start = Instant::now();
+    let mut least = f64::MAX;
+    let mut runs = 0;
+    while runs < 9 || start.elapsed().as_millis() < 100 {
+        least = least.min(run());
+        runs += 1;
+    }
+    least
 }
 
 fn time_ours(form: Form, plan: &[u8], out: &mut [u8]) -> f64 {
@@ -197,17 +204,20 @@ fn time_all(form: Form, plans: &[Vec<u8>]) -> bool {
     worst <= 2.0
 }
 
-/// Each plan in rooms that hold its text and that don't, on the program's own stack.
-fn run(plans: &[Vec<u8>]) -> bool {
-    let mut out = vec![UNTOUCHED; 1 << 24];
-    let mut good = true;
-    for plan in plans {
-        let (number, length, _) = ours(Form::Whole, plan, &mut out);
-        let (short, _, _) = ours(Form::Whole, plan, &mut out[..length.saturating_sub(1)]);
-        println!("plan of {} bytes: number {number}, text of {length} bytes", plan.len());
-        good &= number == 0 && short == 11;
-    }
-    good
+/// Each plan in rooms that hold its text and that don't, on a thread that has this much stack.
+fn run(plans: Vec<Vec<u8>>, kib: usize) -> bool {
+    let each = move || {
+        let mut out = vec![UNTOUCHED; 1 << 24];
+        let mut good = true;
+        for plan in plans {
+            let (number, length, _) = ours(Form::Whole, &plan, &mut out);
+            let (short, _, _) = ours(Form::Whole, &plan, &mut out[..length.saturating_sub(1)]);
+            println!("plan of {} bytes: number {number}, text of {length} bytes", plan.len());
+            good &= number == 0 && short == 11;
+        }
+        good
+    };
+    std::thread::Builder::new().stack_size(kib << 10).spawn(each).expect("a thread").join().expect("our side")
 }
 
 /// A plan whose text is beyond any memory is measured up to the room: the time at rooms that double, which grows as they do.
@@ -278,19 +288,20 @@ fn random(plan: &[u8], seed: u64, count: usize) -> bool {
     different == 0
 }
 
+fn argument(n: usize) -> usize {
+    std::env::args().nth(n).and_then(|word| word.parse().ok()).expect("a number")
+}
+
 fn main() -> ExitCode {
     let good = match std::env::args().nth(1).as_deref() {
         Some("compare") => compare(frames::frames()),
         Some("time") => time_all(Form::Whole, &frames::frames()),
         Some("time-items") => time_all(Form::Items, &frames::frames()),
-        Some("run") => run(&frames::frames()),
+        Some("run") => run(frames::frames(), argument(2)),
         Some("explode") => explode(&frames::frames()),
-        Some("random") => {
-            let numbers: Vec<u64> = std::env::args().skip(2).map(|word| word.parse().expect("a number")).collect();
-            random(&frames::frames()[0], numbers[0], numbers[1] as usize)
-        }
+        Some("random") => random(&frames::frames()[0], argument(2) as u64, argument(3)),
         _ => {
-            eprintln!("usage: whole compare|time|time-items|run|explode|random SEED COUNT < FRAMES");
+            eprintln!("usage: whole compare|time|time-items|run KIB|explode|random SEED COUNT < FRAMES");
             return ExitCode::from(2);
         }
     };
