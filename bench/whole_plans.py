@@ -84,9 +84,12 @@ def explode(n):
 
 def nested(kind):
     """Binding k is written through binding k - 1, and none is bound."""
-    a, types = {"construct": ("0", []), "struct": ("13", ["named 4 0 0 0 5:1"]), "matchtuple": ("0", [])}.get(kind, ("-", []))
-    bindings = ["arg 0 - -"] + [f"{kind} {a} - {k}" for k in range(1023)]
-    return plan("0 0 0 -", SYMS, types, [], ["1 0 1 0 0 in - 0 1"], [(0, bindings, ["0 return 1023 1 -"])])
+    words = {"some": "- -", "matchsome": "- -", "iter": "- -", "struct": "13 -", "variant": "13 0"}
+    types = {"struct": ["named 4 0 0 0 5:1"], "variant": ["enum 0 0 0 0 -"]}
+    variants = {"variant": ["13 5 named 5:1"]}
+    bindings = ["arg 0 - -"] + [f"{kind} {words.get(kind, '0 -')} {k}" for k in range(1023)]
+    terms = [f"1 0 1 0 0 in {'2' if kind == 'extract' else '-'} 0 1"]
+    return plan("0 0 0 -", SYMS, types.get(kind, []), variants.get(kind, []), terms, [(0, bindings, ["0 return 1023 1 -"])])
 
 
 def worked():

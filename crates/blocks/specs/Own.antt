@@ -2,13 +2,13 @@
 use Prim.Native.Nat.{ℕ, _-_}
 use mathlib.Core.Path.{_≡_, refl, sym, ap, _∙_}
 use mathlib.Core.Bool.{Bool, true, false, cond}
-use mathlib.Core.Option.{Option}
+use mathlib.Core.Option.{Option, none}
 use mathlib.Core.List.{List, [], _∷_, _++_}
 use lib.Dec.{ltb}
 use lib.ListN.{drop}
 use Rattle.plan.specs.Row.{Row, step, arm, level}
 use Rattle.codegen.specs.Writer.{Marks}
-use Rattle.codegen.specs.Block.{Body, Purpose, Own, lets, emit-check, emit-arm, own}
+use Rattle.codegen.specs.Block.{Body, Purpose, Own, lets, returning, emit-check, emit-arm, own}
 use Rattle.rows.specs.View.{nth, wide-at, step-made, arm-made, patterns-in, block-of}
 use Rattle.view.specs.Told.{control-flow-of, constraint-of}
 use Rattle.steps.specs.OwnLaws.{check-outside, arm-outside}
@@ -54,6 +54,11 @@ level-is ws = by-test (ltb (nth ws 1) 4) where
 pub step-is : (ws : List ℕ) → ltb (nth ws 1) 4 ≡ true → block-of ws ≡ step (nth ws 0) (control-flow-of ws) (drop 7 ws)
 unfolding block-of
 step-is ws h = rw h refl
+
+-- a `return` opens no frame
+pub return-opens : (c : Body) (refs bound : Marks) (p : Purpose) (ws : List ℕ) (rs : List Row) → nth ws 1 ≡ 3 → own c refs bound p (block-of ws) rs .frame ≡ none
+unfolding own emit-check returning step-made
+return-opens c refs bound p ws rs h = rw (step-is ws (rw h refl), h)
 
 pub arm-is : (ws : List ℕ) → ltb (nth ws 1) 4 ≡ false → block-of ws ≡ arm (nth ws 0) (constraint-of ws) (patterns-in (drop 7 ws))
 unfolding block-of

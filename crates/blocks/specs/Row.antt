@@ -54,6 +54,15 @@ pub record Checks (e : ℕ) (plan words rows tables index : List ℕ) (t depth :
   pub frame : (c : Body) (u : Marks) → opens ≡ check c u b p x rs .frame
   pub bound : (c : Body) (u : Marks) → b' ≡ check c u b p x rs .bound
 
+-- what row x does after its `bind_order`, and the opening of its closure if it splits
+pub record Ends-row (e : ℕ) (plan words rows tables index : List ℕ) (t depth : ℕ) (in-closure log : Bool) (ret-kind : ReturnKind) (term-name : ℕ) (p : Purpose) (split : Bool) (threshold : ℕ) (x : Row) (rs : List Row)
+    (o : List ℕ) (at n : ℕ) (q b : Marks) (o' : List ℕ) (at' n' : ℕ) (q' b' : Marks) (opens : Option Purpose) (splits : Bool) : Type 0 where
+  pub leads : (env : Environment) (c : Body) (i : ℕ) (fs : List Frame) → Known env c plan words rows tables index t log ret-kind term-name → depth ≡ closures fs + suc (length fs) → in-closure ≡ ltb 0 (closures fs)
+      → Leads e env (λ u. place (some i) fs (check c u b p x rs .lines) ++ open-closure i fs splits) (λ u. check c u b p x rs .refs) o at n q o' at' n' q'
+  pub frame : (c : Body) (u : Marks) → opens ≡ check c u b p x rs .frame
+  pub bound : (c : Body) (u : Marks) → b' ≡ check c u b p x rs .bound
+  pub weighs : (sp : ℕ → Bool) → Splitting sp split threshold → splits ≡ is-arm-body opens && sp (block-weight (level x) rs)
+
 -- row x writes its own, and opens its closure if it splits
 pub record Writes-row (e : ℕ) (plan words rows tables index : List ℕ) (t depth : ℕ) (in-closure log : Bool) (ret-kind : ReturnKind) (term-name : ℕ) (p : Purpose) (split : Bool) (threshold : ℕ) (x : Row) (rs : List Row)
     (o : List ℕ) (at n : ℕ) (q b : Marks) (o' : List ℕ) (at' n' : ℕ) (q' b' : Marks) (opens : Option Purpose) (outside : Marks) (splits : Bool) : Type 0 where
@@ -103,25 +112,36 @@ place-append i fs [] ms = refl
 place-append i fs (l ∷ ls) ms = rw (place-append i fs ls ms)
 
 module _ {e : ℕ} {plan words rows tables index : List ℕ} {t depth : ℕ} {in-closure log : Bool} {ret-kind : ReturnKind} {term-name : ℕ} {p : Purpose} {split : Bool} {threshold : ℕ} {x : Row} {rs : List Row}
-    {o : List ℕ} {at n : ℕ} {q b : Marks} {o₁ : List ℕ} {at₁ n₁ : ℕ} {q₁ b₁ : Marks} {o₂ : List ℕ} {at₂ n₂ : ℕ} {q₂ b₂ : Marks} {o₃ : List ℕ} {at₃ : ℕ} {opens : Option Purpose} where
-  pub writes-row : (splits : Bool)
-      → Binds e plan words rows tables index t depth x o at n q b o₁ at₁ n₁ q₁ b₁
-      → Checks e plan words rows tables index t depth in-closure log ret-kind term-name p x rs o₁ at₁ n₁ q₁ b₁ o₂ at₂ n₂ q₂ b₂ opens
+    {o : List ℕ} {at n : ℕ} {q b : Marks} {o₁ : List ℕ} {at₁ n₁ : ℕ} {q₁ b₁ : Marks} {o₂ : List ℕ} {at₂ : ℕ} {opens : Option Purpose} where
+  pub ends-row : (splits : Bool)
+      → Checks e plan words rows tables index t depth in-closure log ret-kind term-name p x rs o at n q b o₁ at₁ n₁ q₁ b₁ opens
       → ((sp : ℕ → Bool) → Splitting sp split threshold → splits ≡ is-arm-body opens && sp (block-weight (level x) rs))
-      → ((env : Environment) (i : ℕ) (fs : List Frame) → depth ≡ closures fs + suc (length fs) → Parts-emit e env (open-closure i fs splits) o₂ at₂ n₂ q₂ o₃ at₃ n₂ q₂)
-      → Writes-row e plan words rows tables index t depth in-closure log ret-kind term-name p split threshold x rs o at n q b o₃ at₃ n₂ q₂ b₂ opens b₁ splits
+      → ((env : Environment) (i : ℕ) (fs : List Frame) → depth ≡ closures fs + suc (length fs) → Parts-emit e env (open-closure i fs splits) o₁ at₁ n₁ q₁ o₂ at₂ n₁ q₁)
+      → Ends-row e plan words rows tables index t depth in-closure log ret-kind term-name p split threshold x rs o at n q b o₂ at₂ n₁ q₁ b₁ opens splits
+  ends-row splits v w y = record {
+    leads = λ env c i fs k d g. v .leads env c i fs k d g ⟫ₗ leads-parts (y env i fs d);
+    frame = v .frame;
+    bound = v .bound;
+    weighs = w;
+  }
+
+module _ {e : ℕ} {plan words rows tables index : List ℕ} {t depth : ℕ} {in-closure log : Bool} {ret-kind : ReturnKind} {term-name : ℕ} {p : Purpose} {split : Bool} {threshold : ℕ} {x : Row} {rs : List Row}
+    {o : List ℕ} {at n : ℕ} {q b : Marks} {o₁ : List ℕ} {at₁ n₁ : ℕ} {q₁ b₁ : Marks} {o₂ : List ℕ} {at₂ n₂ : ℕ} {q₂ b₂ : Marks} {opens : Option Purpose} {splits : Bool} where
+  pub writes-row : Binds e plan words rows tables index t depth x o at n q b o₁ at₁ n₁ q₁ b₁
+      → Ends-row e plan words rows tables index t depth in-closure log ret-kind term-name p split threshold x rs o₁ at₁ n₁ q₁ b₁ o₂ at₂ n₂ q₂ b₂ opens splits
+      → Writes-row e plan words rows tables index t depth in-closure log ret-kind term-name p split threshold x rs o at n q b o₂ at₂ n₂ q₂ b₂ opens b₁ splits
   unfolding joined row-parts
-  writes-row splits u v w y = record {
+  writes-row u v = record {
     leads = λ env c i fs k d g. leads-same
         (rw (own-joined c q b p x rs, place-append, append-assoc, ← u .bound c q))
         (rw (own-joined c q b p x rs, ← u .bound c q))
-        (u .leads env c i fs (k .facts) d ⟫ₗ v .leads env c i fs k d g ⟫ₗ leads-parts (y env i fs d));
+        (u .leads env c i fs (k .facts) d ⟫ₗ v .leads env c i fs k d g);
     owned = λ c. record {
       frame = λ r. rw (own-joined c r b p x rs, ← u .bound c r) (sym (v .frame c (lets c (bind-order x) r b .refs)));
       bound = λ r. rw (own-joined c r b p x rs, ← u .bound c r) (sym (v .bound c (lets c (bind-order x) r b .refs)));
       restored = λ r. rw (own-joined c r b p x rs) (check-restores c _ _ p x rs ∙ sym (u .bound c r));
     };
-    weighs = w;
+    weighs = v .weighs;
   }
 
 -- the opening of a closure

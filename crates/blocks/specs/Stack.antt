@@ -48,15 +48,28 @@ opening-one (some p) = omega arith
 
 -- what an element is that is not there
 abbrev pub missing : Frame
-missing = record { level = 0; row = 0; purpose = p.OneArm; closure = Absent; bound = [] }
+missing = record { level = 0; row = 0; purpose = p.OneArm; closure = Absent }
 
-unfoldable pub frame-told : Frame → block.Frame
-frame-told f = record { level = f .level - 1; row = f .row; purpose = purpose-told (f .purpose); bound = set-of (f .bound); closure = closure-told (f .closure) }
+-- a frame with the bindings that have names where it closes
+unfoldable pub frame-told : Frame → List Bool → block.Frame
+frame-told f bound = record { level = f .level - 1; row = f .row; purpose = purpose-told (f .purpose); bound = set-of bound; closure = closure-told (f .closure) }
 
 -- the d frames after the root, the last of them first
-unfoldable pub frames-told : List Frame → ℕ → List block.Frame
-frames-told st zero = []
-frames-told st (suc d) = frame-told (getD st (suc d) missing) ∷ frames-told st d
+unfoldable pub frames-told : List Frame → List (List Bool) → ℕ → List block.Frame
+frames-told st scopes zero = []
+frames-told st scopes (suc d) = frame-told (getD st (suc d) missing) (getD scopes (suc d) []) ∷ frames-told st scopes d
+
+-- a row of this kind has the bindings kept at place k, unless it is a `return`; what lies below stays
+pub record Saved (kind : ℕ) (scopes : List (List Bool)) (k : ℕ) (bound : List Bool) (scopes' : List (List Bool)) : Type 0 where
+  pub size : length scopes' ≡ length scopes
+  pub below : (j : ℕ) → j < k → getD scopes' j [] ≡ getD scopes j []
+  pub there : (kind ≡ 3 → ⊥) → getD scopes' k [] ≡ bound
+
+pub saved-none : {kind : ℕ} {scopes : List (List Bool)} {k : ℕ} {bound : List Bool} → kind ≡ 3 → Saved kind scopes k bound scopes
+saved-none h = record { size = refl; below = λ j g. refl; there = λ g. absurd (g h) }
+
+pub saved-set : {kind : ℕ} (scopes : List (List Bool)) (k : ℕ) (bound : List Bool) → k < length scopes → Saved kind scopes k bound (set scopes k bound)
+saved-set scopes k bound h = record { size = simp length-set refl; below = λ j g. getD-set-other scopes k j bound [] (λ q. absurd (omega arith)); there = λ g. getD-set-same scopes k bound [] h }
 
 -- ROWS
 
@@ -93,85 +106,90 @@ not-deeper l (r ∷ rs) g h = omega arith
 
 -- FRAMES
 
-frames-length : (st : List Frame) (d : ℕ) → length (frames-told st d) ≡ d
+frames-length : (st : List Frame) (scopes : List (List Bool)) (d : ℕ) → length (frames-told st scopes d) ≡ d
 unfolding frames-told
-frames-length st zero = refl
-frames-length st (suc d) = ap suc (frames-length st d)
+frames-length st scopes zero = refl
+frames-length st scopes (suc d) = ap suc (frames-length st scopes d)
 
 count-one : (k : Option ℕ) → closure-count k ≤ 1
 count-one none = omega arith
 count-one (some n) = omega arith
 
-closures-few : (st : List Frame) (d : ℕ) → closures (frames-told st d) ≤ d
+closures-few : (st : List Frame) (scopes : List (List Bool)) (d : ℕ) → closures (frames-told st scopes d) ≤ d
 unfolding frames-told closures
-closures-few st zero = omega arith
-closures-few st (suc d) = omega (arith, closures-few st d, count-one (frame-told (getD st (suc d) missing) .closure))
+closures-few st scopes zero = omega arith
+closures-few st scopes (suc d) = omega (arith, closures-few st scopes d, count-one (frame-told (getD st (suc d) missing) (getD scopes (suc d) []) .closure))
 
-frames-set : (st : List Frame) (k : ℕ) (f : Frame) (d : ℕ) → d < k → frames-told (set st k f) d ≡ frames-told st d
+pub frames-pop : (st : List Frame) (scopes : List (List Bool)) (d : ℕ) → 0 < d → frames-told st scopes d ≡ frame-told (getD st d missing) (getD scopes d []) ∷ frames-told st scopes (d - 1)
 unfolding frames-told
-frames-set st k f zero h = refl
-frames-set st k f (suc d) h = rw (getD-set-other st k (suc d) f missing (λ q. absurd (omega arith)), frames-set st k f d (omega arith))
+frames-pop st scopes zero h = absurd (omega arith)
+frames-pop st scopes (suc d) h = let q : suc d - 1 ≡ d = omega arith in rw q
 
-pub frames-pop : (st : List Frame) (d : ℕ) → 0 < d → frames-told st d ≡ frame-told (getD st d missing) ∷ frames-told st (d - 1)
-unfolding frames-told
-frames-pop st zero h = absurd (omega arith)
-frames-pop st (suc d) h = let q : suc d - 1 ≡ d = omega arith in rw q
+-- a frame is put at place k, and what is kept of the bindings changes there
+module _ (st : List Frame) (scopes scopes' : List (List Bool)) (k : ℕ) (f : Frame) (below : (j : ℕ) → j < k → getD scopes' j [] ≡ getD scopes j []) where
+  frames-set : (d : ℕ) → d < k → frames-told (set st k f) scopes' d ≡ frames-told st scopes d
+  unfolding frames-told
+  frames-set zero h = refl
+  frames-set (suc d) h = rw (getD-set-other st k (suc d) f missing (λ q. absurd (omega arith)), below (suc d) h, frames-set d (omega arith))
 
-frames-push : (st : List Frame) (d : ℕ) (f : Frame) (x : Option Purpose) (l i : ℕ) (outside : Marks) (k : Option ℕ) → d + 1 < length st
-    → f .level - 1 ≡ l → f .row ≡ i → purpose-told (f .purpose) ≡ opened x → set-of (f .bound) ≡ outside → closure-told (f .closure) ≡ k
-    → frames-told (set st (d + 1) f) (d + opening x) ≡ pushed x l i outside k (frames-told st d)
+frames-push : (st : List Frame) (scopes scopes' : List (List Bool)) (d : ℕ) (f : Frame) (x : Option Purpose) (l i : ℕ) (outside : Marks) (k : Option ℕ) → d + 1 < length st → ((j : ℕ) → j < d + 1 → getD scopes' j [] ≡ getD scopes j [])
+    → f .level - 1 ≡ l → f .row ≡ i → purpose-told (f .purpose) ≡ opened x → ((p : Purpose) → x ≡ some p → set-of (getD scopes' (d + 1) []) ≡ outside) → closure-told (f .closure) ≡ k
+    → frames-told (set st (d + 1) f) scopes' (d + opening x) ≡ pushed x l i outside k (frames-told st scopes d)
 unfolding frames-told pushed frame-told
-frames-push st d f none l i outside k h a b c e g = rw add-zero (frames-set st (d + 1) f d (omega arith))
-frames-push st d f (some p) l i outside k h a b c e g = rw (add-one, getD-set-same st (suc d) f missing (omega arith), frames-set st (suc d) f d (omega arith), a, b, c, e, g)
+frames-push st scopes scopes' d f none l i outside k h w a b c e g = rw add-zero (frames-set st scopes scopes' (d + 1) f w d (omega arith))
+frames-push st scopes scopes' d f (some p) l i outside k h w a b c e g =
+    rw (add-one, getD-set-same st (suc d) f missing (omega arith), frames-set st scopes scopes' (suc d) f (λ j m. w j (omega arith)) d (omega arith), a, b, c, rw add-one at (e p refl), g)
 
 -- what the numbers keep to, with d frames open and `inside` closures around
-pub record Stacked (st : List Frame) (d inside : ℕ) : Type 0 where
+pub record Stacked (st : List Frame) (scopes : List (List Bool)) (d inside : ℕ) : Type 0 where
   pub size : length st ≡ 65
   pub few : d ≤ 64
+  pub room : d < length scopes
   pub root : getD st 0 missing .level ≡ 0
   pub outermost : purpose-told (getD st 0 missing .purpose) ≡ body
   pub low : (j : ℕ) → j ≤ d → j ≤ getD st j missing .level
-  pub count : inside ≡ closures (frames-told st d)
+  pub count : inside ≡ closures (frames-told st scopes d)
 
-pub stacked-start : (f : Frame) → f .level ≡ 0 → purpose-told (f .purpose) ≡ body → Stacked (replicate 65 f) 0 0
+pub stacked-start : (f : Frame) (scopes : List (List Bool)) → 0 < length scopes → f .level ≡ 0 → purpose-told (f .purpose) ≡ body → Stacked (replicate 65 f) scopes 0 0
 unfolding frames-told closures
-stacked-start f h g = record { size = refl; few = omega arith; root = h; outermost = g; low = λ j k. omega arith; count = refl }
+stacked-start f scopes r h g = record { size = refl; few = omega arith; room = r; root = h; outermost = g; low = λ j k. omega arith; count = refl }
 
-module _ {st : List Frame} {d inside : ℕ} (s : Stacked st d inside) where
+module _ {st : List Frame} {scopes : List (List Bool)} {d inside : ℕ} (s : Stacked st scopes d inside) where
   pub inside-few : inside ≤ d
-  inside-few = omega (arith, s .count, closures-few st d)
+  inside-few = omega (arith, s .count, closures-few st scopes d)
 
   -- how deep a line is
-  pub depth-is : (base : ℕ) → base ≡ 1 → base + inside + d ≡ closures (frames-told st d) + suc (length (frames-told st d))
-  depth-is base h = omega (arith, s .count, frames-length st d)
+  pub depth-is : 1 + inside + d ≡ closures (frames-told st scopes d) + suc (length (frames-told st scopes d))
+  depth-is = omega (arith, s .count, frames-length st scopes d)
 
-  pub purpose-top : purpose-of (frames-told st d) ≡ purpose-told (getD st d missing .purpose)
+  pub purpose-top : purpose-of (frames-told st scopes d) ≡ purpose-told (getD st d missing .purpose)
   unfolding frames-told frame-told
   purpose-top = by-cases d (s .outermost) where
-    by-cases : (m : ℕ) → purpose-told (getD st 0 missing .purpose) ≡ body → purpose-of (frames-told st m) ≡ purpose-told (getD st m missing .purpose)
+    by-cases : (m : ℕ) → purpose-told (getD st 0 missing .purpose) ≡ body → purpose-of (frames-told st scopes m) ≡ purpose-told (getD st m missing .purpose)
     by-cases zero h = sym h
     by-cases (suc m) h = refl
 
-  pub inside-top : (l : ℕ) → getD st d missing .level < suc l → Inside l (frames-told st d)
+  pub inside-top : (l : ℕ) → getD st d missing .level < suc l → Inside l (frames-told st scopes d)
   unfolding frames-told frame-told
   inside-top l h = by-cases d h (s .low d (omega arith)) where
-    by-cases : (m : ℕ) → getD st m missing .level < suc l → m ≤ getD st m missing .level → Inside l (frames-told st m)
+    by-cases : (m : ℕ) → getD st m missing .level < suc l → m ≤ getD st m missing .level → Inside l (frames-told st scopes m)
     by-cases zero g k = tt
     by-cases (suc m) g k = omega arith
 
-  pub not-deeper-top : (rs : List Row) → 0 < d → next-level rs ≤ getD st d missing .level → NotDeeper (frame-told (getD st d missing) .level) rs
+  pub not-deeper-top : (rs : List Row) → 0 < d → next-level rs ≤ getD st d missing .level → NotDeeper (frame-told (getD st d missing) (getD scopes d []) .level) rs
   unfolding frame-told
   not-deeper-top rs g h = not-deeper (getD st d missing .level) rs (omega (arith, s .low d (omega arith))) h
 
-  pub stacked-pop : (n : ℕ) → 0 < d → n ≡ inside - closure-count (closure-told (getD st d missing .closure)) → Stacked st (d - 1) n
+  pub stacked-pop : (n : ℕ) → 0 < d → n ≡ inside - closure-count (closure-told (getD st d missing .closure)) → Stacked st scopes (d - 1) n
   unfolding closures frame-told
   stacked-pop n h q = record {
     size = s .size;
     few = omega (arith, s .few);
+    room = omega (arith, s .room);
     root = s .root;
     outermost = s .outermost;
     low = λ j g. s .low j (omega arith);
-    count = omega (arith, q, rw (frames-pop st d h) at (s .count));
+    count = omega (arith, q, rw (frames-pop st scopes d h) at (s .count));
   }
 
 closures-pushed : (x : Option Purpose) (l i : ℕ) (outside : Marks) (t b : Bool) (m : ℕ) (fs : List block.Frame) → t ≡ is-arm-body x && b → cond t (suc (closures fs)) (closures fs) ≡ closures (pushed x l i outside (numbered t m) fs)
@@ -187,24 +205,25 @@ closures-pushed (some p) l i outside false b m fs h = sym (zero-add (closures fs
 level-set : (st : List Frame) (k : ℕ) (f : Frame) (j : ℕ) → j < k → getD (set st k f) j missing ≡ getD st j missing
 level-set st k f j h = getD-set-other st k j f missing (λ q. absurd (omega arith))
 
-module _ {st : List Frame} {d inside : ℕ} (s : Stacked st d inside) (f : Frame) (x : Option Purpose) (l i : ℕ) (outside : Marks) (t b : Bool) (m : ℕ) (room : d < 64)
-    (a : f .level ≡ suc l) (deeper : getD st d missing .level < suc l) (ri : f .row ≡ i) (pu : purpose-told (f .purpose) ≡ opened x) (bo : set-of (f .bound) ≡ outside) (cl : closure-told (f .closure) ≡ numbered t m) (sp : t ≡ is-arm-body x && b) where
-  pub stacked-frames : frames-told (set st (d + 1) f) (d + opening x) ≡ pushed x l i outside (numbered t m) (frames-told st d)
-  stacked-frames = frames-push st d f x l i outside (numbered t m) (omega (arith, s .size)) (omega arith) ri pu bo cl
+module _ {st : List Frame} {scopes scopes' : List (List Bool)} {kind : ℕ} {bound : List Bool} {d inside : ℕ} (s : Stacked st scopes d inside) (v : Saved kind scopes (d + 1) bound scopes') (f : Frame) (x : Option Purpose) (l i : ℕ) (t b : Bool) (m : ℕ) (room : d < 64) (place : d + 1 < length scopes)
+    (a : f .level ≡ suc l) (deeper : getD st d missing .level < suc l) (ri : f .row ≡ i) (pu : purpose-told (f .purpose) ≡ opened x) (cl : closure-told (f .closure) ≡ numbered t m) (sp : t ≡ is-arm-body x && b) where
+  pub stacked-frames : (outside : Marks) → ((p : Purpose) → x ≡ some p → set-of (getD scopes' (d + 1) []) ≡ outside) → frames-told (set st (d + 1) f) scopes' (d + opening x) ≡ pushed x l i outside (numbered t m) (frames-told st scopes d)
+  stacked-frames outside bo = frames-push st scopes scopes' d f x l i outside (numbered t m) (omega (arith, s .size)) (v .below) (omega arith) ri pu bo cl
 
   low-push : (j : ℕ) → j ≤ d + opening x → j ≤ getD (set st (d + 1) f) j missing .level
   low-push j h = by-test (ltb j (d + 1)) refl
     where
-      by-test : (v : Bool) → ltb j (d + 1) ≡ v → j ≤ getD (set st (d + 1) f) j missing .level
+      by-test : (z : Bool) → ltb j (d + 1) ≡ z → j ≤ getD (set st (d + 1) f) j missing .level
       by-test true q = let g : j < d + 1 = ltb-true j (d + 1) q in rw (level-set st (d + 1) f j g) (s .low j (omega arith))
       by-test false q = let g : j ≡ d + 1 = omega (arith, ltb-false j (d + 1) q, opening-one x) in rw (g, getD-set-same st (d + 1) f missing (omega (arith, s .size))) (omega (arith, s .low d (omega arith)))
 
-  pub stacked-push : Stacked (set st (d + 1) f) (d + opening x) (cond t (suc inside) inside)
+  pub stacked-push : Stacked (set st (d + 1) f) scopes' (d + opening x) (cond t (suc inside) inside)
   stacked-push = record {
     size = simp length-set (s .size);
     few = omega (arith, opening-one x);
+    room = omega (arith, opening-one x, v .size);
     root = rw (level-set st (d + 1) f 0 (omega arith)) (s .root);
     outermost = rw (level-set st (d + 1) f 0 (omega arith)) (s .outermost);
     low = low-push;
-    count = rw (s .count, stacked-frames) (closures-pushed x l i outside t b m (frames-told st d) sp);
+    count = rw (s .count, stacked-frames (set-of (getD scopes' (d + 1) [])) (λ p q. refl)) (closures-pushed x l i (set-of (getD scopes' (d + 1) [])) t b m (frames-told st scopes d) sp);
   }

@@ -18,26 +18,24 @@ ghost use Rattle.layout.specs.View.{cut};
 ghost use Rattle.emits.specs.Marks.{set-of};
 ghost use Rattle.sema.specs.Signature.{return-kind-told};
 ghost use Rattle.steps.specs.Told.{purpose-told, opens-told};
-ghost use Rattle.blocks.specs.Row.{rows-from, Splitting, Binds, Checks, Writes-row};
+ghost use Rattle.blocks.specs.Row.{rows-from, Splitting, Binds, Checks, Ends-row};
 
-// What a row has done: where it has come to, the frame that it opens, whether that has a closure, and the bindings that have
-// names where the frame closes.
+// What a row has done: where it has come to, the frame that it opens, and whether that has a closure.
 pub struct RowDone {
     pub at: usize,
     pub odd: usize,
     pub opens: Opens,
     pub splits: bool,
-    pub scope: [bool; 1024],
 }
 
 // A step's `bind_order`; an arm has none.
-fn emit_bind_order(
+pub fn emit_bind_order(
     out: &mut [u8],
     end: usize,
     at: usize,
     odd: usize,
-    refs: &mut [bool],
-    bound: &mut [bool],
+    refs: &mut [bool; 1024],
+    bound: &mut [bool; 1024],
     plan: &[u8],
     words: &[u32],
     rows: &[u32],
@@ -177,8 +175,8 @@ fn splits_at(
     threshold < weights::block_weight(words, rows, level, r + 1, last)
 }
 
-// Row r, up to the closure that it opens.
-pub fn emit_row(
+// What row r does after its `bind_order`, up to the closure that it opens.
+pub fn emit_rest(
     out: &mut [u8],
     end: usize,
     at: usize,
@@ -203,30 +201,13 @@ pub fn emit_row(
     threshold: usize,
 ) -> RowDone
     requires { ⌜ (r < last) × (depth < 4095) ⌝ }
-    ensures { λ w. ⌜ Writes-row end (now (plan .entry)) (now (words .entry)) (now (rows .entry)) (now (tables .entry)) (now (index .entry)) t depth «in_closure» log (return-kind-told «ret_kind») «term_name» (purpose-told purpose) split threshold (block-of (cut (now (words .entry)) (now (rows .entry)) r)) (rows-from (now (words .entry)) (now (rows .entry)) last (r + 1)) (now (out .entry)) at odd (set-of (now (refs .entry))) (set-of (now (bound .entry))) (now (out .exit)) (w .at) (w .odd) (set-of (now (refs .exit))) (set-of (now (bound .exit))) (opens-told (w .opens)) (set-of (w .scope)) (w .splits) ⌝ }
+    ensures { λ w. ⌜ Ends-row end (now (plan .entry)) (now (words .entry)) (now (rows .entry)) (now (tables .entry)) (now (index .entry)) t depth «in_closure» log (return-kind-told «ret_kind») «term_name» (purpose-told purpose) split threshold (block-of (cut (now (words .entry)) (now (rows .entry)) r)) (rows-from (now (words .entry)) (now (rows .entry)) last (r + 1)) (now (out .entry)) at odd (set-of (now (refs .entry))) (set-of (now (bound .entry))) (now (out .exit)) (w .at) (w .odd) (set-of (now (refs .exit))) (set-of (now (bound .exit))) (opens-told (w .opens)) (w .splits) ⌝ }
 {
-    let b = emit_bind_order(
+    let k = emit_case(
         out,
         end,
         at,
         odd,
-        refs,
-        bound,
-        plan,
-        words,
-        rows,
-        tables,
-        index,
-        t,
-        r,
-        depth,
-    );
-    let scope = *bound;
-    let k = emit_case(
-        out,
-        end,
-        b.at,
-        b.odd,
         refs,
         bound,
         plan,
@@ -252,6 +233,5 @@ pub fn emit_row(
         odd: k.odd,
         opens: opens,
         splits: splits,
-        scope: scope,
     }
 }

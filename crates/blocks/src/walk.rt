@@ -1,37 +1,33 @@
 // The walk over the rows of a block. A turn of the loop closes a frame, or has a row write its own.
-use super::row::emit_row;
+use super::row::emit_bind_order;
+use super::row::emit_rest;
 use context::block::Closure;
 use context::block::end_block;
-use context::body_context::BodyContext;
 use emits::Written;
 use sema::signature::ReturnKind;
 use steps::Opens;
 use steps::Purpose;
 ghost use mathlib.Core.Path.{_≡_};
-ghost use mathlib.Core.Bool.{Bool, cond};
-ghost use mathlib.Core.List.{List, []};
-ghost use Prim.Native.Nat.{ℕ, suc, _+_, _-_, _<_, _≤_};
-ghost use Rattle.plan.specs.Plan.{Environment};
-ghost use Rattle.codegen.specs.Block.{Body, State, closure-count, numbered};
+ghost use mathlib.Core.Bool.{cond};
+ghost use lib.ListN.{length};
+ghost use Prim.Native.Nat.{suc, _-_, _<_, _≤_};
+ghost use Rattle.codegen.specs.Block.{closure-count, numbered};
+ghost use Rattle.rows.specs.View.{nth};
+ghost use Rattle.layout.specs.View.{cut};
 ghost use Rattle.context.specs.Closing.{closure-told};
 ghost use Rattle.context.specs.Laws.{is-several};
-ghost use Rattle.emits.specs.Marks.{set-of};
-ghost use Rattle.emits.specs.Rows.{Walk-emits};
 ghost use Rattle.sema.specs.Signature.{return-kind-told};
 ghost use Rattle.steps.specs.Told.{purpose-told, opens-told};
-ghost use Rattle.blocks.specs.Row.{rows-from, Splitting, Known};
-ghost use Rattle.blocks.specs.Middle.{standing};
-ghost use Rattle.blocks.specs.Stack.{next-level, opened, opening};
-ghost use Rattle.blocks.specs.Loop.{Shallow};
+ghost use Rattle.blocks.specs.Row.{rows-from};
+ghost use Rattle.blocks.specs.Stack.{next-level, opened, opening, Saved};
+ghost use Rattle.blocks.specs.Loop.{Block-written};
 
-// An open frame: one more than the level of its row (0: the root), the row, what it is for, the closure in it, and the bindings
-// that have names where it closes.
+// An open frame: one more than the level of its row (0: the root), the row, what it is for, and the closure in it.
 pub struct Frame {
     pub level: usize,
     pub row: usize,
     pub purpose: Purpose,
     pub closure: Closure,
-    pub bound: [bool; 1024],
 }
 
 // One more than the level of row r, 0 past the last row.
@@ -113,14 +109,34 @@ fn more(n: usize, splits: bool) -> usize
     n
 }
 
-// The rows from row `first` up to row `last`, the block of a generated term. The marks are taken out of the context, since they
-// are lent to what writes the rows.
+// The bindings that have names where the frame that row r opens closes are kept; a `return` opens no frame.
+fn save_scope(
+    scopes: &mut [[bool; 1024]],
+    top: usize,
+    bound: &[bool; 1024],
+    words: &[u32],
+    rows: &[u32],
+    r: usize,
+)
+    requires { ⌜ top < length (now scopes) ⌝ }
+    ensures { λ _. ⌜ Saved (nth (cut (now (words .entry)) (now (rows .entry)) r) 1) (now (scopes .entry)) top (now (bound .entry)) (now (scopes .exit)) ⌝ }
+{
+    if view::word(words, rows, r, 1) == 3 {
+        return;
+    }
+    scopes[top] = *bound;
+}
+
+// The rows from row `first` up to row `last`, the block of a generated term. Lent are the context's marks, and room for the
+// bindings that have names where each open frame closes.
 pub fn emit_block_contents(
     out: &mut [u8],
     end: usize,
     at: usize,
     odd: usize,
-    context: BodyContext,
+    refs: &mut [bool; 1024],
+    bound: &mut [bool; 1024],
+    scopes: &mut [[bool; 1024]],
     plan: &[u8],
     words: &[u32],
     rows: &[u32],
@@ -135,24 +151,19 @@ pub fn emit_block_contents(
     split: bool,
     threshold: usize,
 ) -> Written
-    requires { ⌜ (last < 4294967296) × (context .depth ≡ 1) × (context .«match_split» ≡ 0) ⌝ }
-    ensures { λ w. ⌜ ((env : Environment) (c : Body) (sp : ℕ → Bool) → Known env c (now (plan .entry)) (now (words .entry)) (now (rows .entry)) (now (tables .entry)) (now (index .entry)) t log (return-kind-told «ret_kind») «term_name» → Splitting sp split threshold → Shallow (now (words .entry)) (now (rows .entry)) first last → Walk-emits end env c sp (standing (set-of (context .«is_bound»)) 0 []) 0 (rows-from (now (words .entry)) (now (rows .entry)) last first) (now (out .entry)) at odd (set-of (context .«is_ref»)) (now (out .exit)) (w .at) (w .odd)) ⌝ }
+    requires { ⌜ (last < 4294967296) × (0 < length (now scopes)) ⌝ }
+    ensures { λ w. ⌜ Block-written end (now (plan .entry)) (now (words .entry)) (now (rows .entry)) (now (tables .entry)) (now (index .entry)) t first last log (return-kind-told «ret_kind») «term_name» split threshold (length (now (scopes .entry))) (now (refs .entry)) (now (bound .entry)) (now (out .entry)) at odd (now (out .exit)) (w .at) (w .odd) ⌝ }
 {
-    let base = context.depth;
-    let mut refs = context.is_ref;
-    let mut bound = context.is_bound;
-    let outside = context.is_bound;
     let root = Frame {
         level: 0,
         row: 0,
         purpose: Purpose::Body,
         closure: Closure::Absent,
-        bound: outside,
     };
     let mut stack = [root; 65];
     let mut d = 0;
     let mut inside = 0;
-    let mut count = context.match_split;
+    let mut count = 0;
     let mut r = first;
     let mut w = Written { at: at, odd: odd };
     while w.at < end {
@@ -164,14 +175,14 @@ pub fn emit_block_contents(
             if d == 0 {
                 return w;
             }
+            *bound = scopes[d];
             d -= 1;
             inside = fewer(inside, closure);
-            bound = f.bound;
             w.at = end_block(
                 out,
                 w.at,
                 end,
-                base + inside + d,
+                1 + inside + d,
                 0 < inside,
                 closure,
                 is_several(purpose),
@@ -181,13 +192,35 @@ pub fn emit_block_contents(
         if 64 <= d {
             return w;
         }
-        let k = emit_row(
+        let top = d + 1;
+        if scopes.len() <= top {
+            return w;
+        }
+        let depth = 1 + inside + d;
+        let b = emit_bind_order(
             out,
             end,
             w.at,
             w.odd,
-            &mut refs,
-            &mut bound,
+            refs,
+            bound,
+            plan,
+            words,
+            rows,
+            tables,
+            index,
+            t,
+            r,
+            depth,
+        );
+        save_scope(scopes, top, bound, words, rows, r);
+        let k = emit_rest(
+            out,
+            end,
+            b.at,
+            b.odd,
+            refs,
+            bound,
             plan,
             words,
             rows,
@@ -196,7 +229,7 @@ pub fn emit_block_contents(
             t,
             r,
             last,
-            base + inside + d,
+            depth,
             0 < inside,
             log,
             ret_kind,
@@ -206,14 +239,11 @@ pub fn emit_block_contents(
             threshold,
         );
         let opens = k.opens;
-        let scope = k.scope;
-        let top = d + 1;
         stack[top] = Frame {
             level: next,
             row: r - first,
             purpose: purpose_of(opens),
             closure: number(k.splits, count),
-            bound: scope,
         };
         d += frame_count(opens);
         inside = more(inside, k.splits);

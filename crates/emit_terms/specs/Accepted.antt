@@ -65,7 +65,7 @@ accepted-passes s p e = accepted-by (fits-length s) _ 1 e (λ a e₁. accepted-b
 
 -- WHAT THEY SAY
 
-every-each : {A : Type 0} (test : A → Bool) (P : A → Type 0) → ((x : A) → test x ≡ true → P x) → (xs : List A) → every test xs ≡ true → Each P xs
+pub every-each : {A : Type 0} (test : A → Bool) (P : A → Type 0) → ((x : A) → test x ≡ true → P x) → (xs : List A) → every test xs ≡ true → Each P xs
 unfolding every
 every-each test P f [] h = tt
 every-each test P f (x ∷ xs) h = (f x (and-left (test x) (every test xs) h), every-each test P f xs (and-right (test x) (every test xs) h))

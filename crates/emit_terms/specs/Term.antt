@@ -7,12 +7,13 @@ use native.Mathlib.Nat.{add-assoc}
 use native.Mathlib.Omega.{arith}
 use lib.Dec.{ltb}
 use lib.ListN.{length, getD}
-use borrow.Author.Tests.{ltb-true, ltb-false}
+use borrow.Author.Tests.{ltb-true, ltb-false, lt-ltb, le-ltb}
 use Rattle.text.specs.Sink.{Puts}
 use Rattle.text.specs.SinkLaws.{_then_, puts-nil}
 use Rattle.plan.specs.Plan.{Options, Environment, Term, Generated, Plan}
 use Rattle.plan.specs.Row.{Row, level}
 use Rattle.plan.specs.Lookup.{term-at}
+use Rattle.plan.specs.Refusal.{every}
 use Rattle.codegen.specs.Writer.{Marks}
 use Rattle.codegen.specs.ReturnKind.{ReturnKind, Iterator, Option, Plain, by-return-kind}
 use Rattle.codegen.specs.Sema.{ExternalSig, constructor-sig}
@@ -28,7 +29,7 @@ use Rattle.emits.specs.Marks.{set-of}
 use Rattle.emits.specs.Rows.{run-parts, Parts-emit, _⟫ₚ_, run-walk, Walk-emits}
 use Rattle.sema.specs.Holds.{Holds}
 use Rattle.sema.proofs.Laws.{term-row}
-use Rattle.context.specs.Context.{New, Same-but-refs, deeper}
+use Rattle.context.specs.Context.{New, Same-but-refs}
 use Rattle.context.specs.Laws.{parts-puts}
 use Rattle.context.specs.declared.body_context.BodyContext.{BodyContext}
 use Rattle.constructors.specs.Lines.{head-text, arguments-text, result-text, signature-is, signature-odds}
@@ -36,8 +37,10 @@ use Rattle.constructors.specs.Ending.{end-text, end-is, end-odds}
 use Rattle.constructors.specs.Arguments.{bindings-from}
 use Rattle.blocks.specs.Middle.{standing}
 use Rattle.blocks.specs.Row.{Known, rows-from, Splitting}
-use Rattle.blocks.specs.Loop.{Shallow}
-use Rattle.emit_terms.specs.Accepted.{Each, Term-fits, Plan-fits}
+use Rattle.blocks.specs.Own.{level-is}
+use Rattle.blocks.specs.Stack.{rows-next, rows-none}
+use Rattle.blocks.specs.Loop.{Shallow, Block-written}
+use Rattle.emit_terms.specs.Accepted.{Each, every-each, Term-fits, Plan-fits}
 
 -- THE WALK'S PARTS
 
@@ -74,8 +77,31 @@ each-cut P words rows first (suc n) r e h g = by-test (ltb first r) refl (λ l. 
     by-test true q later = later (ltb-true first r q)
     by-test false q later = let l : first ≡ r = omega (arith, ltb-false first r q) in rw l at (e .0)
 
-pub shallow-rows : (words rows : List ℕ) (first last : ℕ) → Each (λ r. level r < 64) (rows-from words rows last first) → Shallow words rows first last
-shallow-rows words rows first last e = record { levels = λ r h g. each-cut (λ x. level x < 64) words rows first (last - first) r e h (omega arith) }
+-- levels below m find m + 1 places
+pub shallow-rows : (words rows : List ℕ) (first last m : ℕ) → m ≤ 64 → Each (λ r. level r < m) (rows-from words rows last first) → Shallow words rows first last (m + 1)
+shallow-rows words rows first last m u e =
+    let below : (r : ℕ) → first ≤ r → r < last → level (block-of (cut words rows r)) < m = λ r h g. each-cut (λ x. level x < m) words rows first (last - first) r e h (omega arith) in
+    record { levels = λ r h g. omega (arith, below r h g); places = λ r h g. omega (arith, below r h g) }
+
+-- the levels for which a few places are enough
+abbrev pub below-eight : Row → Bool
+below-eight r = ltb (level r) 8
+
+pub shallow-few : (words rows : List ℕ) (first last : ℕ) → every below-eight (rows-from words rows last first) ≡ true → Shallow words rows first last 9
+shallow-few words rows first last h = shallow-rows words rows first last 8 (omega arith) (every-each below-eight (λ r. level r < 8) (λ r. ltb-true (level r) 8) (rows-from words rows last first) h)
+
+module _ (words rows : List ℕ) (r last : ℕ) where
+  pub few-next : {l : ℕ} → r < last → l ≡ nth (cut words rows r) 0 → l < 8 → every below-eight (rows-from words rows last r) ≡ every below-eight (rows-from words rows last (r + 1))
+  unfolding every
+  few-next h q g = rw (rows-next words rows r last h, level-is (cut words rows r), ← q, lt-ltb _ 8 g)
+
+  pub few-not : {l : ℕ} → r < last → l ≡ nth (cut words rows r) 0 → 8 ≤ l → every below-eight (rows-from words rows last r) ≡ false
+  unfolding every
+  few-not h q g = rw (rows-next words rows r last h, level-is (cut words rows r), ← q, le-ltb _ 8 g)
+
+  pub few-end : last ≤ r → every below-eight (rows-from words rows last r) ≡ true
+  unfolding every
+  few-end h = rw (rows-none words rows r last h)
 
 -- what the options say in code
 pub record Options-told (o : Options) (log split : Bool) (threshold : ℕ) : Type 0 where
@@ -87,8 +113,6 @@ pub record Options-told (o : Options) (log split : Bool) (threshold : ℕ) : Typ
 pub record Started (words rows tables : List ℕ) (t : ℕ) (sig : Environment → ExternalSig) (s : BodyContext) : Type 0 where
   pub refs : (env : Environment) (plan index : List ℕ) → Holds env plan words rows tables index → set-of (s .«is_ref») ≡ argument-refs env (generated-at words rows tables t .bindings) 0 (sig env .param-tys) no-marks
   pub bound : set-of (s .«is_bound») ≡ no-marks
-  pub depth : s .depth ≡ 1
-  pub split : s .«match_split» ≡ 0
 
 and-and : (a b c : Bool) → a && (b && c) ≡ (a && b) && c
 and-and true b c = refl
@@ -155,16 +179,14 @@ pub and-false : (b : Bool) → false ≡ b && false
 and-false true = refl
 and-false false = refl
 
-module _ {words rows tables : List ℕ} {first last : ℕ} (t : ℕ) {sig : Environment → ExternalSig} {new context s : BodyContext} where
-  pub started : New new → Same-but-refs new context → s ≡ deeper context → first ≡ getD tables (t + 1) 0 → last ≡ getD tables (t + 1 + 1) 0
+module _ {words rows tables : List ℕ} {first last : ℕ} (t : ℕ) {sig : Environment → ExternalSig} {new context : BodyContext} where
+  pub started : New new → Same-but-refs new context → first ≡ getD tables (t + 1) 0 → last ≡ getD tables (t + 1 + 1) 0
       → ((env : Environment) (plan index : List ℕ) → Holds env plan words rows tables index → set-of (context .«is_ref») ≡ argument-refs env (bindings-from words rows last first) 0 (sig env .param-tys) (set-of (new .«is_ref»)))
-      → Started words rows tables t sig s
-  started n m q a b r = rw q (record {
+      → Started words rows tables t sig context
+  started n m a b r = record {
     refs = λ env plan index h. r env plan index h ∙ rw (bindings-are words rows tables t a b, n .refs);
     bound = ap set-of (m .bound) ∙ n .bound;
-    depth = omega (arith, m .depth, n .depth);
-    split = m .split ∙ n .split;
-  })
+  }
 
 module _ {e : ℕ} {env : Environment} {plan words rows tables index : List ℕ} {first last : ℕ} {o : List ℕ} {at n : ℕ} {o' : List ℕ} {at' n' : ℕ} (t : ℕ) (op : Options) (sig : Environment → ExternalSig) (s : BodyContext) where
   pub body-emits : Holds env plan words rows tables index → Started words rows tables t sig s → first ≡ getD tables (t + 2) 0 → last ≡ getD tables (t + 2 + 1) 0 → sig env ≡ constructor-sig (term-at env (generated-at words rows tables t .term))
@@ -172,6 +194,15 @@ module _ {e : ℕ} {env : Environment} {plan words rows tables index : List ℕ}
       → Parts-emit {S = Unit {0}} e env (walk (body-of op env (generated-at words rows tables t)) (splits op env (generated-at words rows tables t)) (start env (generated-at words rows tables t)) 0 (generated-at words rows tables t .rows)) o at n tt o' at' n' tt
   unfolding start with-refs standing constructor-sig
   body-emits h st a b q w = walk-parts (rw (rows-are words rows tables t a b, st .bound, st .refs env plan index h, q) at w)
+
+  pub body-written : {log split may : Bool} {threshold places : ℕ} (name : ℕ) (kind : ReturnKind) → Holds env plan words rows tables index → Options-told op log split threshold → Term-fits (generated-at words rows tables t) → Started words rows tables t sig s
+      → first ≡ getD tables (t + 2) 0 → last ≡ getD tables (t + 2 + 1) 0 → sig env ≡ constructor-sig (term-at env (generated-at words rows tables t .term)) → sig env .ret-kind ≡ kind → name ≡ term-at env (generated-at words rows tables t .term) .name
+      → may ≡ split && by-return-kind kind true false false → Shallow words rows first last places
+      → Block-written e plan words rows tables index t first last log kind name may threshold places (s .«is_ref») (s .«is_bound») o at n o' at' n'
+      → Parts-emit {S = Unit {0}} e env (walk (body-of op env (generated-at words rows tables t)) (splits op env (generated-at words rows tables t)) (start env (generated-at words rows tables t)) 0 (generated-at words rows tables t .rows)) o at n tt o' at' n' tt
+  body-written name kind h u f st a b q k y m l w =
+      let kq : constructor-sig (term-at env (generated-at words rows tables t .term)) .ret-kind ≡ kind = ap (λ (x : ExternalSig). x .ret-kind) (sym q) ∙ k in
+      body-emits h st a b q (w .is env (body-of op env (generated-at words rows tables t)) (splits op env (generated-at words rows tables t)) (term-known t name h u f kind kq y) (term-splits t name h u f kind kq y _ m) l)
 
 ret-is : (m : Term) → getD (constructor-sig m .ret-tys) 0 0 ≡ m .ret-ty
 unfolding constructor-sig

@@ -165,7 +165,7 @@ fn answer_read(
 }
 
 // The buffers for a plan of up to 1,024 bytes.
-fn answer_small(plan: &[u8], out: &mut [u8], form: Form) -> Emitted
+fn answer_up_to_1024(plan: &[u8], out: &mut [u8], form: Form) -> Emitted
     requires { ⌜ length (now plan) ≤ 1024 ⌝ }
     ensures { λ r. ⌜ Answers (answer-in form (length (now (out .entry))) (outcome (now (plan .entry)))) r (now (out .entry)) (now (out .exit)) ⌝ }
 {
@@ -189,7 +189,7 @@ fn answer_small(plan: &[u8], out: &mut [u8], form: Form) -> Emitted
 }
 
 // Of up to 8,192.
-fn answer_middle(plan: &[u8], out: &mut [u8], form: Form) -> Emitted
+fn answer_up_to_8192(plan: &[u8], out: &mut [u8], form: Form) -> Emitted
     requires { ⌜ length (now plan) ≤ 8192 ⌝ }
     ensures { λ r. ⌜ Answers (answer-in form (length (now (out .entry))) (outcome (now (plan .entry)))) r (now (out .entry)) (now (out .exit)) ⌝ }
 {
@@ -198,7 +198,7 @@ fn answer_middle(plan: &[u8], out: &mut [u8], form: Form) -> Emitted
     let mut tables = [0u32; 2049];
     let mut above = [0u8; 4098];
     let mut index = [0u32; 1281];
-    let mut draft = [0u8; 32768];
+    let mut draft = [0u8; 65536];
     answer_read(
         plan,
         out,
@@ -212,8 +212,32 @@ fn answer_middle(plan: &[u8], out: &mut [u8], form: Form) -> Emitted
     )
 }
 
-// Of any length. A long text is measured without a draft: the stack is kept for nested expressions.
-fn answer_large(plan: &[u8], out: &mut [u8], form: Form) -> Emitted
+// Of up to 32,768.
+fn answer_up_to_32768(plan: &[u8], out: &mut [u8], form: Form) -> Emitted
+    requires { ⌜ length (now plan) ≤ 32768 ⌝ }
+    ensures { λ r. ⌜ Answers (answer-in form (length (now (out .entry))) (outcome (now (plan .entry)))) r (now (out .entry)) (now (out .exit)) ⌝ }
+{
+    let mut words = [0u32; 32768];
+    let mut rows = [0u32; 16385];
+    let mut tables = [0u32; 8193];
+    let mut above = [0u8; 16386];
+    let mut index = [0u32; 1281];
+    let mut draft = [0u8; 131072];
+    answer_read(
+        plan,
+        out,
+        form,
+        &mut words,
+        &mut rows,
+        &mut tables,
+        &mut above,
+        &mut index,
+        &mut draft,
+    )
+}
+
+// Of any length. The draft is no longer than leaves nested expressions their stack in a mebibyte.
+fn answer_any(plan: &[u8], out: &mut [u8], form: Form) -> Emitted
     ensures { λ r. ⌜ Answers (answer-in form (length (now (out .entry))) (outcome (now (plan .entry)))) r (now (out .entry)) (now (out .exit)) ⌝ }
 {
     let mut words = [0u32; 65536];
@@ -221,7 +245,7 @@ fn answer_large(plan: &[u8], out: &mut [u8], form: Form) -> Emitted
     let mut tables = [0u32; 16385];
     let mut above = [0u8; 32770];
     let mut index = [0u32; 1281];
-    let mut draft = [0u8; 1];
+    let mut draft = [0u8; 98304];
     answer_read(
         plan,
         out,
@@ -240,12 +264,15 @@ fn answer_plan(plan: &[u8], out: &mut [u8], form: Form) -> Emitted
     ensures { λ r. ⌜ Answers (answer-in form (length (now (out .entry))) (outcome (now (plan .entry)))) r (now (out .entry)) (now (out .exit)) ⌝ }
 {
     if plan.len() <= 1024 {
-        return answer_small(plan, out, form);
+        return answer_up_to_1024(plan, out, form);
     }
     if plan.len() <= 8192 {
-        return answer_middle(plan, out, form);
+        return answer_up_to_8192(plan, out, form);
     }
-    answer_large(plan, out, form)
+    if plan.len() <= 32768 {
+        return answer_up_to_32768(plan, out, form);
+    }
+    answer_any(plan, out, form)
 }
 
 // The whole module of a plan.

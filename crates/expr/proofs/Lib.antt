@@ -1,1 +1,3 @@
 pub mod Loops
+pub mod Numbers
+pub mod Turns

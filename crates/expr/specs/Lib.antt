@@ -1,2 +1,4 @@
+pub mod Between
 pub mod Lower
+pub mod Next
 pub mod Writes

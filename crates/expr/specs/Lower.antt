@@ -12,8 +12,3 @@ use Rattle.expr_parts.specs.Sources.{one-source}
 pub record Lower (bs : List BindingRow) : Type 0 where
   pub lower : (b i : ℕ) → i < length (binding-at bs b .sources) → getD (binding-at bs b .sources) i 0 < b
   pub one : (b : ℕ) → one-source (binding-at bs b .binding) ≡ true → 0 < length (binding-at bs b .sources)
-
--- the same of one row: that of binding b
-pub record Lower-row (x : BindingRow) (b : ℕ) : Type 0 where
-  pub lower : (i : ℕ) → i < length (x .sources) → getD (x .sources) i 0 < b
-  pub one : one-source (x .binding) ≡ true → 0 < length (x .sources)

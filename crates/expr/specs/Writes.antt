@@ -1,26 +1,20 @@
 -- What the functions that write an expression say of each other. Assumes nothing: these are definitions.
-use Prim.Native.Nat.{ℕ, _+_, _≤_, _<_}
-use mathlib.Core.Path.{_≡_, refl}
-use mathlib.Core.List.{List, [], _∷_}
-use lib.ListN.{length, getD}
-use Rattle.plan.specs.Plan.{Fields, Environment}
+use Prim.Native.Nat.{ℕ, _+_, _≤_}
+use mathlib.Core.Path.{_≡_}
+use mathlib.Core.List.{List}
+use Rattle.plan.specs.Plan.{Environment}
 use Rattle.plan.specs.Binding.{BindingRow}
-use Rattle.codegen.specs.Piece.{fix, break}
-use Rattle.codegen.specs.Writer.{Marks, Writer, say, ask, _▸_}
-use Rattle.codegen.specs.Sema.{is-ref, field-name}
-use Rattle.codegen.specs.Expr.{passed, cloned, emit-below}
+use Rattle.codegen.specs.Writer.{Marks, Writer}
+use Rattle.codegen.specs.Expr.{emit-below}
 use Rattle.view.specs.Tables.{generated-at}
 use Rattle.emits.specs.Emits.{Emits, Rest}
 use Rattle.sema.specs.Holds.{Holds}
+use Rattle.expr.specs.Between.{row-of, from-here}
 use Rattle.expr.specs.Lower.{Lower}
 
 -- the bindings of the generated term whose tables are t, t + 1 and t + 2
 abbrev pub bindings-at : List ℕ → List ℕ → List ℕ → ℕ → List BindingRow
 bindings-at words rows tables t = generated-at words rows tables t .bindings
-
--- each source is below binding b
-abbrev pub Below : List ℕ → ℕ → Type 0
-Below qs b = (i : ℕ) → i < length qs → getD qs i 0 < b
 
 -- The buffers hold env; a line that begins at the expression's depth d is `depth` deep in all. Only bindings below m are written, those
 -- by `emit-below` have numbers below c, and k suffices for them.
@@ -45,9 +39,6 @@ pub record Leaves (e : ℕ) (plan words rows tables index : List ℕ) (bound : M
   pub is : (env : Environment) (d₀ d k : ℕ) → Ready env plan words rows tables index t depth m c d₀ d k
       → Rest e env d₀ (w₀ env (emit-below env (bindings-at words rows tables t) bound k) d) o₀ at₀ n₀ r₀ (w env (emit-below env (bindings-at words rows tables t) bound k) d) o at n r
 
--- one parameter of `parameters`, and one field of `field-lines`
-abbrev pub parameter : Environment → (ℕ → Writer) → ℕ → ℕ → Writer
-parameter e rec q t = say (fix ", " refl ∷ []) ▸ ask q (λ r. passed (is-ref e t) r (rec q))
-
-abbrev pub field-line : (ℕ → Writer) → Fields → ℕ → ℕ → ℕ → Writer
-field-line rec f d i q = say (break d ∷ field-name f i ∷ fix ": " refl ∷ []) ▸ rec q ▸ ask q cloned ▸ say (fix "," refl ∷ [])
+-- source i of binding b, and all that stands after it
+abbrev pub rest-of : List ℕ → List ℕ → List ℕ → Marks → ℕ → ℕ → ℕ → Through
+rest-of words rows tables bound t b i env rec d = from-here env bound rec d b (row-of words rows tables t b .binding) (row-of words rows tables t b .sources) i

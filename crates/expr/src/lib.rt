@@ -1,8 +1,8 @@
 // Expressions and sources: `emit_expr` of codegen.rs 915, and `emit_source` of 1063.
 // The marks are lent: those of references change while writing, those of bound bindings are only read.
 mod below;
+mod between;
 
-use below::Site;
 use below::emit_below;
 use emits::Written;
 use emits::stablemapset::contains;
@@ -40,18 +40,24 @@ pub fn emit_expr(
 ) -> Written
     ensures { λ r. ⌜ ((env : Environment) → Holds env (now (plan .entry)) (now (words .entry)) (now (rows .entry)) (now (tables .entry)) (now (index .entry)) → Lower (generated-at (now (words .entry)) (now (rows .entry)) (now (tables .entry)) t .bindings) → depth + b < 4611686018427387904 → Emits end env depth (emit-expr env (generated-at (now (words .entry)) (now (rows .entry)) (now (tables .entry)) t .bindings) (set-of (now (bound .entry))) b) (now (out .entry)) at odd (set-of (now (refs .entry))) (now (out .exit)) (r .at) (r .odd) (set-of (now (refs .exit)))) ⌝ }
 {
-    let w = Written { at: at, odd: odd };
-    if 4611686018427387904 <= b {
-        return w;
-    }
-    let s = Site {
-        end: end,
-        t: t,
-        depth: depth,
-        b: b + 1,
-        row: 0,
-    };
-    emit_below(out, w, refs, bound, plan, words, rows, tables, index, s, b)
+    let mut odd = odd;
+    let at = emit_below(
+        out,
+        at,
+        refs,
+        bound,
+        plan,
+        words,
+        rows,
+        tables,
+        index,
+        &mut odd,
+        end,
+        t,
+        depth,
+        b,
+    );
+    Written { at: at, odd: odd }
 }
 
 // A pattern of a variant or a struct wants a reference.

@@ -1,11 +1,11 @@
 -- Pieces that expressions have, and how a binding's row stands in the tables. Assumes nothing.
-use Prim.Native.Nat.{ℕ, zero, suc, _+_, _-_, _≤_, _<_, min}
+use Prim.Native.Nat.{ℕ, _+_, _≤_}
 use Prim.Native.String.{String}
 use mathlib.Core.Path.{_≡_, refl, sym, ap, _∙_}
 use mathlib.Core.Bool.{Bool, true, false, cond, not, _&&_}
-use mathlib.Core.List.{List, [], _∷_, _++_, append-nil}
+use mathlib.Core.List.{List, [], _∷_, _++_}
 use native.Mathlib.Omega.{arith}
-use lib.ListN.{length, getD, drop, List·getD-map}
+use lib.ListN.{length, getD, List·getD-map}
 use Rattle.text.specs.Codes.{codes}
 use Rattle.text.specs.Digits.{decimal}
 use Rattle.text.specs.Sink.{Puts}
@@ -21,10 +21,10 @@ use Rattle.codegen.specs.Piece as piece
 use Rattle.codegen.specs.ReturnKind.{ReturnKind, by-return-kind}
 use Rattle.codegen.specs.ReturnKind as kind
 use Rattle.codegen.specs.Sema.{is-ref, field-name, full-name-of}
-use Rattle.codegen.specs.Writer.{Marks, contains, insert, Writer, said, say, mark, ask, _▸_, nothing}
-use Rattle.codegen.specs.Expr.{passed, cloned, returns-ref}
+use Rattle.codegen.specs.Writer.{Marks, contains, insert, Writer, said, say, mark, ask, nothing}
+use Rattle.codegen.specs.Expr.{cloned, returns-ref}
 use Rattle.emits.specs.Place.{place-cases}
-use Rattle.emits.specs.Emits.{run, Emits, Shows, _⟫_, emits-say, emits-mark, emits-ask, counts-none, render-append, odd-append}
+use Rattle.emits.specs.Emits.{run, Emits, Shows, emits-say, emits-mark, emits-ask, counts-none, render-append, odd-append}
 use Rattle.emits.specs.Pieces.{shows-none, shows-fix, shows-sym, shows-type, shows-num, shows-var, shows-break, shows-piece}
 use Rattle.sema.specs.Signature.{prefix}
 
@@ -60,10 +60,6 @@ module _ {e : ℕ} {env : Environment} {d : ℕ} {o : List ℕ} {at : ℕ} {n : 
     emits-type p = emits-text refl (shows-type p shows-none)
 
     module _ {o₁ : List ℕ} {at₁ : ℕ} where
-      pub emits-var : {v : ℕ} → Puts e (codes "v") o at o₁ at₁ → Puts e (decimal v) o₁ at₁ o' at' → Emits e env d (say (var v ∷ [])) o at n r o' at' n r
-      unfolding odd-pieces odd-piece
-      emits-var p q = emits-text refl (shows-var p q shows-none)
-
       -- a fixed text and a number
       pub emits-num : {t : String} {h : plain (codes t) ≡ true} {v : ℕ} → Puts e (codes t) o at o₁ at₁ → Puts e (decimal v) o₁ at₁ o' at' → Emits e env d (say (fix t h ∷ num v ∷ [])) o at n r o' at' n r
       unfolding odd-pieces odd-piece
@@ -83,6 +79,17 @@ module _ {e : ℕ} {env : Environment} {d : ℕ} {o : List ℕ} {at : ℕ} {n : 
       pub emits-unbraced : {d' : ℕ} {o₂ : List ℕ} {at₂ : ℕ} → Puts e (10 ∷ []) o at o₁ at₁ → Puts e (indent (d + d')) o₁ at₁ o₂ at₂ → Puts e (codes "}") o₂ at₂ o' at' → Emits e env d (say (break d' ∷ piece.unbrace ∷ [])) o at n r o' at' n r
       unfolding odd-pieces odd-piece bytes
       emits-unbraced p q s = emits-text refl (shows-break p q (shows-piece s shows-none))
+
+    -- before and after a value, or nothing
+    pub emits-borrowed : (x : Bool) → Shows e env d (cond x (fix "&" refl ∷ []) []) o at o' at' → Emits e env d (say (cond x (fix "&" refl ∷ []) [])) o at n r o' at' n r
+    unfolding odd-pieces odd-piece
+    emits-borrowed true p = emits-text refl p
+    emits-borrowed false p = emits-text refl p
+
+    pub emits-clone : (x : Bool) → Shows e env d (cond x (fix ".clone()" refl ∷ []) []) o at o' at' → Emits e env d (say (cond x (fix ".clone()" refl ∷ []) [])) o at n r o' at' n r
+    unfolding odd-pieces odd-piece
+    emits-clone true p = emits-text refl p
+    emits-clone false p = emits-text refl p
 
     pub emits-brace : Puts e (codes " {") o at o' at' → Emits e env d (say (piece.brace ∷ [])) o at n r o' at' n r
     unfolding odd-pieces odd-piece bytes
@@ -177,20 +184,5 @@ pub emits-same : {e : ℕ} {env : Environment} {d : ℕ} {v w : Writer} {o : Lis
 unfolding run
 emits-same {e} {env} {d} {v} {w} {o} {at} {n} {r} h p = record { is = p .is ∙ place-cases (λ x. run e env d v x ≡ run e env d w x) e o at n r (λ a b. rw (h r)) (λ a. refl) (λ a. refl) }
 
-pub nothing-before : (w : Writer) (q : Marks) → said (nothing ▸ w) q ≡ said w q
-unfolding said
-nothing-before w q = refl
-
-nothing-after : (w : Writer) (q : Marks) → said (w ▸ nothing) q ≡ said w q
-unfolding said
-nothing-after w q = rw append-nil
-
--- a parameter, between what stands before and after it
-pub emits-passed : {e : ℕ} {env : Environment} {d : ℕ} {o : List ℕ} {at n : ℕ} {r : Marks} {o₁ : List ℕ} {at₁ : ℕ} {o₂ : List ℕ} {at₂ n₂ : ℕ} {r₂ : Marks} {o' : List ℕ} {at' : ℕ} (wanted given : Bool) (w : Writer)
-    → Shows e env d (cond (wanted && not given) (fix "&" refl ∷ []) []) o at o₁ at₁ → Emits e env d w o₁ at₁ n r o₂ at₂ n₂ r₂ → Shows e env d (cond (given && not wanted) (fix ".clone()" refl ∷ []) []) o₂ at₂ o' at'
-    → Emits e env d (passed wanted given w) o at n r o' at' n₂ r₂
-unfolding passed odd-pieces odd-piece
-emits-passed true true w p x s = emits-same (nothing-before w) (emits-text refl p ⟫ emits-same (nothing-after w) (x ⟫ emits-text refl s))
-emits-passed true false w p x s = emits-text refl p ⟫ emits-same (nothing-after w) (x ⟫ emits-text refl s)
-emits-passed false true w p x s = emits-same (nothing-before (w ▸ say (fix ".clone()" refl ∷ []))) (emits-text refl p ⟫ x ⟫ emits-text refl s)
-emits-passed false false w p x s = emits-same (nothing-before w) (emits-text refl p ⟫ emits-same (nothing-after w) (x ⟫ emits-text refl s))
+pub emits-by : {e : ℕ} {env : Environment} {d : ℕ} {v w : Writer} {o : List ℕ} {at n : ℕ} {r : Marks} {o' : List ℕ} {at' n' : ℕ} {r' : Marks} → v ≡ w → Emits e env d v o at n r o' at' n' r' → Emits e env d w o at n r o' at' n' r'
+emits-by h p = rw (← h) p

@@ -1,4 +1,4 @@
--- The sources of bindings: which kinds have them, and what stands around the only one. Assumes nothing: these are definitions.
+-- The sources of bindings: which kinds have one, and what stands after it. Assumes nothing: these are definitions.
 use Prim.Native.Nat.{ℕ}
 use mathlib.Core.Path.{refl}
 use mathlib.Core.Bool.{Bool, true, false, cond}
@@ -30,52 +30,19 @@ one-source (MatchTuple f) = true
 one-source (MatchVariant f) = true
 one-source (ExtractStruct f) = true
 
--- the kinds that have no source
-abbrev pub sourceless : Binding → Bool
-sourceless (ConstBool v) = true
-sourceless (ConstInt n v) = true
-sourceless (ConstPrim n) = true
-sourceless (Argument i) = true
-sourceless (Extractor m) = false
-sourceless (Constructor m) = false
-sourceless Iterator = false
-sourceless (MakeVariant n k) = false
-sourceless (MakeStruct n) = false
-sourceless MakeSome = false
-sourceless MatchSome = false
-sourceless (MatchTuple f) = false
-sourceless (MatchVariant f) = false
-sourceless (ExtractStruct f) = false
-
--- what stands before the source of a kind that has one, and after it: the source is asked about once it is written
-abbrev pub before-source : Binding → Writer
-before-source (ConstBool v) = nothing
-before-source (ConstInt n v) = nothing
-before-source (ConstPrim n) = nothing
-before-source (Argument i) = nothing
-before-source (Extractor m) = nothing
-before-source (Constructor m) = nothing
-before-source Iterator = nothing
-before-source (MakeVariant n k) = nothing
-before-source (MakeStruct n) = nothing
-before-source MakeSome = say (fix "Some(" refl ∷ [])
-before-source MatchSome = nothing
-before-source (MatchTuple f) = nothing
-before-source (MatchVariant f) = nothing
-before-source (ExtractStruct f) = nothing
-
-abbrev pub after-source : Binding → ℕ → Writer
-after-source (ConstBool v) q = nothing
-after-source (ConstInt n v) q = nothing
-after-source (ConstPrim n) q = nothing
-after-source (Argument i) q = nothing
-after-source (Extractor m) q = nothing
-after-source (Constructor m) q = nothing
-after-source Iterator q = say (fix ".next() /*FIXME*/" refl ∷ [])
-after-source (MakeVariant n k) q = nothing
-after-source (MakeStruct n) q = nothing
-after-source MakeSome q = say (fix ")" refl ∷ [])
-after-source MatchSome q = ask q (λ r. say (cond r (fix ".as_ref()?" refl) (fix "?" refl) ∷ []))
-after-source (MatchTuple f) q = say (fix "." refl ∷ num f ∷ [])
-after-source (MatchVariant f) q = say (fix "." refl ∷ num f ∷ fix " /*FIXME*/" refl ∷ [])
-after-source (ExtractStruct f) q = say (fix "." refl ∷ num f ∷ fix " /*FIXME*/" refl ∷ [])
+-- after the only source q, which is asked about once it is written
+abbrev pub after-one : Binding → ℕ → Writer
+after-one (ConstBool v) q = nothing
+after-one (ConstInt n v) q = nothing
+after-one (ConstPrim n) q = nothing
+after-one (Argument i) q = nothing
+after-one (Extractor m) q = nothing
+after-one (Constructor m) q = nothing
+after-one Iterator q = say (fix ".next() /*FIXME*/" refl ∷ [])
+after-one (MakeVariant n k) q = nothing
+after-one (MakeStruct n) q = nothing
+after-one MakeSome q = say (fix ")" refl ∷ [])
+after-one MatchSome q = ask q (λ r. say (cond r (fix ".as_ref()?" refl) (fix "?" refl) ∷ []))
+after-one (MatchTuple f) q = say (fix "." refl ∷ num f ∷ [])
+after-one (MatchVariant f) q = say (fix "." refl ∷ num f ∷ fix " /*FIXME*/" refl ∷ [])
+after-one (ExtractStruct f) q = say (fix "." refl ∷ num f ∷ fix " /*FIXME*/" refl ∷ [])

@@ -21,7 +21,7 @@ use view::list_len;
 use view::row_at;
 ghost use Prim.Native.Nat.{ℕ, _+_, _≤_, min};
 ghost use mathlib.Core.Path.{_≡_, refl};
-ghost use mathlib.Core.Bool.{true, cond, not, _&&_};
+ghost use mathlib.Core.Bool.{cond, not, _&&_};
 ghost use mathlib.Core.List.{List, [], _∷_, _++_};
 ghost use lib.ListN.{length, getD};
 ghost use Rattle.plan.specs.Plan.{Environment};
@@ -38,7 +38,7 @@ ghost use Rattle.sema.specs.Holds.{Holds};
 ghost use Rattle.sema.specs.Fields.{fields-held};
 ghost use Rattle.sema.specs.Signature.{sig-told};
 ghost use Rattle.view.specs.Told.{binding-told};
-ghost use Rattle.expr_parts.specs.Sources.{sources-in, one-source, before-source, after-source};
+ghost use Rattle.expr_parts.specs.Sources.{sources-in, after-one};
 
 // The row of binding b of the generated term whose first table is t; where there is none, a number that no row has.
 pub fn binding_row(rows: &[u32], tables: &[u32], t: usize, b: usize) -> usize
@@ -101,17 +101,7 @@ fn put_fixme_field(out: &mut [u8], at: usize, end: usize, field: usize) -> usize
     put_bytes(out, at, end, b" /*FIXME*/")
 }
 
-// What stands before the source of a kind that has one.
-pub fn put_before(out: &mut [u8], at: usize, end: usize, k: Binding) -> usize
-    ensures { λ r. ⌜ ((env : Environment) (d n : ℕ) (m : Marks) → Emits end env d (before-source (binding-told k)) (now (out .entry)) at n m (now (out .exit)) r n m) ⌝ }
-{
-    match k {
-        Binding::MakeSome => put_bytes(out, at, end, b"Some("),
-        _ => at,
-    }
-}
-
-// What stands after it.
+// What stands after the source of a kind that has one.
 pub fn put_after(
     out: &mut [u8],
     at: usize,
@@ -120,7 +110,7 @@ pub fn put_after(
     q: usize,
     k: Binding,
 ) -> usize
-    ensures { λ r. ⌜ (one-source (binding-told k) ≡ true → (env : Environment) (d n : ℕ) → Emits end env d (after-source (binding-told k) q) (now (out .entry)) at n (set-of (now (refs .entry))) (now (out .exit)) r n (set-of (now (refs .entry)))) ⌝ }
+    ensures { λ r. ⌜ ((env : Environment) (d n : ℕ) → Emits end env d (after-one (binding-told k) q) (now (out .entry)) at n (set-of (now (refs .entry))) (now (out .exit)) r n (set-of (now (refs .entry)))) ⌝ }
 {
     match k {
         Binding::Iterator => put_bytes(out, at, end, b".next() /*FIXME*/"),
