@@ -1,6 +1,7 @@
 // The entries: from a plan's bytes and a buffer to the answer. They measure, then write: a text that is longer than the buffer is
 // refused before a byte is written.
 pub mod exports;
+pub mod reading;
 
 use emits::Written;
 use reader::Laid;
