@@ -10,6 +10,7 @@ bottom:N    31 matches nested in one another, with N returns at level 62, the ar
 items       256 types, 1,024 variants, 512 terms, none generated
 explode:N   N bindings, each a struct of two fields that are both the binding before it: a text of more than 2 ** N bytes
 nested:KIND 1,024 bindings nested in one another, all of a kind that is written through its source
+long:KIND   the same with a text that makes the plan 65,536 bytes long
 """
 
 import pathlib
@@ -82,14 +83,18 @@ def explode(n):
     return plan("0 0 0 -", SYMS, ["named 4 0 0 0 5:13,6:13"], [], ["1 0 13 0 0 in - 0 1"], [(0, bindings, [f"0 return {n} 1 -"])])
 
 
-def nested(kind):
+def nested(kind, more=()):
     """Binding k is written through binding k - 1, and none is bound."""
     words = {"some": "- -", "matchsome": "- -", "iter": "- -", "struct": "13 -", "variant": "13 0"}
     types = {"struct": ["named 4 0 0 0 5:1"], "variant": ["enum 0 0 0 0 -"]}
     variants = {"variant": ["13 5 named 5:1"]}
     bindings = ["arg 0 - -"] + [f"{kind} {words.get(kind, '0 -')} {k}" for k in range(1023)]
     terms = [f"1 0 1 0 0 in {'2' if kind == 'extract' else '-'} 0 1"]
-    return plan("0 0 0 -", SYMS, types.get(kind, []), variants.get(kind, []), terms, [(0, bindings, ["0 return 1023 1 -"])])
+    return plan("0 0 0 -", [*SYMS, *more], types.get(kind, []), variants.get(kind, []), terms, [(0, bindings, ["0 return 1023 1 -"])])
+
+
+def long(kind):
+    return nested(kind, ["x" * (65536 - len(nested(kind)) - 1)])
 
 
 def worked():
@@ -97,7 +102,7 @@ def worked():
 
 
 def main():
-    shapes = {f.__name__: f for f in (worked, typical, literals, returns, deep, bottom, items, explode, nested)}
+    shapes = {f.__name__: f for f in (worked, typical, literals, returns, deep, bottom, items, explode, nested, long)}
     if len(sys.argv) < 2:
         sys.exit(__doc__)
     for shape in sys.argv[1:]:

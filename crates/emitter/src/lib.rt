@@ -165,17 +165,41 @@ fn answer_read(
     }
 }
 
-// The buffers for a plan of up to 1,024 bytes.
-fn answer_up_to_1024(plan: &[u8], out: &mut [u8], form: Form) -> Emitted
-    requires { ⌜ length (now plan) ≤ 1024 ⌝ }
+// The buffers for a plan of up to 512 bytes.
+fn answer_up_to_512(plan: &[u8], out: &mut [u8], form: Form) -> Emitted
+    requires { ⌜ length (now plan) ≤ 512 ⌝ }
     ensures { λ r. ⌜ Answers (answer-in form (length (now (out .entry))) (outcome (now (plan .entry)))) r (now (out .entry)) (now (out .exit)) ⌝ }
 {
-    let mut words = [0u32; 1024];
-    let mut rows = [0u32; 513];
-    let mut tables = [0u32; 257];
-    let mut above = [0u8; 514];
+    let mut words = [0u32; 512];
+    let mut rows = [0u32; 257];
+    let mut tables = [0u32; 129];
+    let mut above = [0u8; 258];
     let mut index = [0u32; 1281];
     let mut draft = [0u8; 4096];
+    answer_read(
+        plan,
+        out,
+        form,
+        &mut words,
+        &mut rows,
+        &mut tables,
+        &mut above,
+        &mut index,
+        &mut draft,
+    )
+}
+
+// Of up to 2,048.
+fn answer_up_to_2048(plan: &[u8], out: &mut [u8], form: Form) -> Emitted
+    requires { ⌜ length (now plan) ≤ 2048 ⌝ }
+    ensures { λ r. ⌜ Answers (answer-in form (length (now (out .entry))) (outcome (now (plan .entry)))) r (now (out .entry)) (now (out .exit)) ⌝ }
+{
+    let mut words = [0u32; 2048];
+    let mut rows = [0u32; 1025];
+    let mut tables = [0u32; 513];
+    let mut above = [0u8; 1026];
+    let mut index = [0u32; 1281];
+    let mut draft = [0u8; 16384];
     answer_read(
         plan,
         out,
@@ -264,8 +288,11 @@ fn answer_any(plan: &[u8], out: &mut [u8], form: Form) -> Emitted
 fn answer_plan(plan: &[u8], out: &mut [u8], form: Form) -> Emitted
     ensures { λ r. ⌜ Answers (answer-in form (length (now (out .entry))) (outcome (now (plan .entry)))) r (now (out .entry)) (now (out .exit)) ⌝ }
 {
-    if plan.len() <= 1024 {
-        return answer_up_to_1024(plan, out, form);
+    if plan.len() <= 512 {
+        return answer_up_to_512(plan, out, form);
+    }
+    if plan.len() <= 2048 {
+        return answer_up_to_2048(plan, out, form);
     }
     if plan.len() <= 8192 {
         return answer_up_to_8192(plan, out, form);
