@@ -50,6 +50,9 @@ fn ours(form: Form, plan: &[u8], out: &mut [u8]) -> (u32, usize, usize) {
 const UNTOUCHED: u8 = 0xa5;
 const BEYOND: usize = 64;
 
+/// How often both are timed in turn.
+const ROUNDS: usize = 8;
+
 /// The room that both are asked for; what is longer has no text to compare.
 const ROOM: usize = 65536;
 
@@ -152,12 +155,12 @@ fn compare(plans: Vec<Vec<u8>>) -> bool {
     different == 0
 }
 
-/// The least time of many runs, in microseconds: as many as take a tenth of a second, nine at least. Each run returns its own time.
+/// The least time of many runs, in microseconds: as many as take a twentieth of a second, three at least. Each run returns its own time.
 fn least(mut run: impl FnMut() -> f64) -> f64 {
     let start = Instant::now();
     let mut least = f64::MAX;
     let mut runs = 0;
-    while runs < 9 || start.elapsed().as_millis() < 100 {
+    while runs < 3 || start.elapsed().as_millis() < 50 {
         least = least.min(run());
         runs += 1;
     }
@@ -195,8 +198,11 @@ fn time_all(form: Form, plans: &[Vec<u8>]) -> bool {
             println!("{:10} refused {number}", plan.len());
             continue;
         }
-        let a = time_ours(form, plan, &mut out);
-        let b = with_large_stack(|| time_crate(form, &Plan::read(plan).expect("an accepted plan")));
+        let (mut a, mut b) = (f64::MAX, f64::MAX);
+        for _ in 0..ROUNDS {
+            a = a.min(time_ours(form, plan, &mut out));
+            b = b.min(with_large_stack(|| time_crate(form, &Plan::read(plan).expect("an accepted plan"))));
+        }
         worst = worst.max(a / b);
         println!("{:10} {length:10} {a:9.1} us {b:9.1} us   {:.2}", plan.len(), a / b);
     }

@@ -1,7 +1,8 @@
 #!/usr/bin/env python3
 """whole_plans.py SHAPE..: plans for the benchmarks, as frames (oracle/README.md). A shape may have a size: `typical:4`.
 
-worked      the worked plan of document 01
+worked      the worked plan of document 01, which has one rule
+example     the plan of host/example
 typical:N   N terms of 40 rules each: a match on an enum, a call, a return
 literals:N  N iterator terms of 500 integer arms, each of which returns an integer
 returns:N   an iterator term of N returns
@@ -16,6 +17,7 @@ long:KIND   the same with a text that makes the plan 65,536 bytes long
 import pathlib
 import sys
 
+ROOT = pathlib.Path(__file__).resolve().parent.parent
 SYMS = ["Path", "pick", "loss", "gain", "Pair", "first", "second"]
 TERM = "name pos ret multi partial ctor xtor infallible list"
 
@@ -98,11 +100,15 @@ def long(kind):
 
 
 def worked():
-    return (pathlib.Path(__file__).resolve().parent.parent / "oracle/examples/worked.plan").read_text()
+    return (ROOT / "oracle/examples/worked.plan").read_text()
+
+
+def example():
+    return (ROOT / "host/example/rules.plan").read_text()
 
 
 def main():
-    shapes = {f.__name__: f for f in (worked, typical, literals, returns, deep, bottom, items, explode, nested, long)}
+    shapes = {f.__name__: f for f in (worked, example, typical, literals, returns, deep, bottom, items, explode, nested, long)}
     if len(sys.argv) < 2:
         sys.exit(__doc__)
     for shape in sys.argv[1:]:

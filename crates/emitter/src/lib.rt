@@ -141,7 +141,7 @@ fn answer_tables(
     answer_held(out, form, plan, words, rows, &tables[..end], index, draft)
 }
 
-// The answer for any bytes, with buffers that are long enough for them.
+// The answer for any bytes, with buffers that are long enough for them. The draft serves the reader before it has the text.
 fn answer_read(
     plan: &[u8],
     out: &mut [u8],
@@ -149,14 +149,13 @@ fn answer_read(
     words: &mut [u32],
     rows: &mut [u32],
     tables: &mut [u32],
-    above: &mut [u8],
     index: &mut [u32; 1281],
     draft: &mut [u8],
 ) -> Emitted
-    requires { ⌜ Room (now plan) (now words) (now rows) (now tables) (now above) ⌝ }
+    requires { ⌜ Room (now plan) (now words) (now rows) (now tables) (now draft) ⌝ }
     ensures { λ r. ⌜ Answers (answer-in form (length (now (out .entry))) (outcome (now (plan .entry)))) r (now (out .entry)) (now (out .exit)) ⌝ }
 {
-    let r = refusals::read_into(plan, words, rows, tables, above, index);
+    let r = refusals::read_into(plan, words, rows, tables, draft, index);
     match r {
         Laid::Refused(number) => Emitted::Refused { number },
         Laid::Held(_rows, j) => {
@@ -173,7 +172,6 @@ fn answer_up_to_512(plan: &[u8], out: &mut [u8], form: Form) -> Emitted
     let mut words = [0u32; 512];
     let mut rows = [0u32; 257];
     let mut tables = [0u32; 129];
-    let mut above = [0u8; 258];
     let mut index = [0u32; 1281];
     let mut draft = [0u8; 4096];
     answer_read(
@@ -183,7 +181,6 @@ fn answer_up_to_512(plan: &[u8], out: &mut [u8], form: Form) -> Emitted
         &mut words,
         &mut rows,
         &mut tables,
-        &mut above,
         &mut index,
         &mut draft,
     )
@@ -197,7 +194,6 @@ fn answer_up_to_2048(plan: &[u8], out: &mut [u8], form: Form) -> Emitted
     let mut words = [0u32; 2048];
     let mut rows = [0u32; 1025];
     let mut tables = [0u32; 513];
-    let mut above = [0u8; 1026];
     let mut index = [0u32; 1281];
     let mut draft = [0u8; 16384];
     answer_read(
@@ -207,7 +203,6 @@ fn answer_up_to_2048(plan: &[u8], out: &mut [u8], form: Form) -> Emitted
         &mut words,
         &mut rows,
         &mut tables,
-        &mut above,
         &mut index,
         &mut draft,
     )
@@ -221,7 +216,6 @@ fn answer_up_to_8192(plan: &[u8], out: &mut [u8], form: Form) -> Emitted
     let mut words = [0u32; 8192];
     let mut rows = [0u32; 4097];
     let mut tables = [0u32; 2049];
-    let mut above = [0u8; 4098];
     let mut index = [0u32; 1281];
     let mut draft = [0u8; 65536];
     answer_read(
@@ -231,7 +225,6 @@ fn answer_up_to_8192(plan: &[u8], out: &mut [u8], form: Form) -> Emitted
         &mut words,
         &mut rows,
         &mut tables,
-        &mut above,
         &mut index,
         &mut draft,
     )
@@ -245,7 +238,6 @@ fn answer_up_to_32768(plan: &[u8], out: &mut [u8], form: Form) -> Emitted
     let mut words = [0u32; 32768];
     let mut rows = [0u32; 16385];
     let mut tables = [0u32; 8193];
-    let mut above = [0u8; 16386];
     let mut index = [0u32; 1281];
     let mut draft = [0u8; 131072];
     answer_read(
@@ -255,7 +247,6 @@ fn answer_up_to_32768(plan: &[u8], out: &mut [u8], form: Form) -> Emitted
         &mut words,
         &mut rows,
         &mut tables,
-        &mut above,
         &mut index,
         &mut draft,
     )
@@ -268,9 +259,8 @@ fn answer_any(plan: &[u8], out: &mut [u8], form: Form) -> Emitted
     let mut words = [0u32; 65536];
     let mut rows = [0u32; 32769];
     let mut tables = [0u32; 16385];
-    let mut above = [0u8; 32770];
     let mut index = [0u32; 1281];
-    let mut draft = [0u8; 98304];
+    let mut draft = [0u8; 143360];
     answer_read(
         plan,
         out,
@@ -278,7 +268,6 @@ fn answer_any(plan: &[u8], out: &mut [u8], form: Form) -> Emitted
         &mut words,
         &mut rows,
         &mut tables,
-        &mut above,
         &mut index,
         &mut draft,
     )
