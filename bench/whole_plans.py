@@ -12,6 +12,7 @@ items       256 types, 1,024 variants, 512 terms, none generated
 explode:N   N bindings, each a struct of two fields that are both the binding before it: a text of more than 2 ** N bytes
 nested:KIND 1,024 bindings nested in one another, all of a kind that is written through its source
 long:KIND   the same with a text that makes the plan 65,536 bytes long
+deepest     1,024 nested bindings, returned below 31 nested matches, in a plan of 65,536 bytes
 """
 
 import pathlib
@@ -60,12 +61,16 @@ def returns(n):
     return plan("0 0 0 -", SYMS, [], [], ["1 0 1 1 0 in - 0 1"], [(0, ["arg 0 - -"], rows)])
 
 
-def deep(n, returns=64):
+def deep_rows(n, last):
     """Row 2k matches, its two arms are at level 2k + 1; the second has the next match below it."""
     rows = []
     for k in range(n):
         rows += [f"{2 * k} match 0 - -", f"{2 * k + 1} int 1 {k:032x} -", f"{2 * k + 2} return 0 1 -", f"{2 * k + 1} int 1 {99:032x} -"]
-    rows += [f"{2 * n} return 0 1 -"] * returns
+    return rows + [f"{2 * n} {row}" for row in last]
+
+
+def deep(n, returns=64):
+    rows = deep_rows(n, ["return 0 1 -"] * returns)
     return plan("0 0 1 2", SYMS, [], [], ["1 0 1 1 0 in - 0 1"], [(0, ["arg 0 - -"], rows)])
 
 
@@ -95,8 +100,19 @@ def nested(kind, more=()):
     return plan("0 0 0 -", [*SYMS, *more], types.get(kind, []), variants.get(kind, []), terms, [(0, bindings, ["0 return 1023 1 -"])])
 
 
+def lengthened(made):
+    """The plan that `made` gives for a text that makes it 65,536 bytes long."""
+    return made(["x" * (65536 - len(made([])) - 1)])
+
+
 def long(kind):
-    return nested(kind, ["x" * (65536 - len(nested(kind)) - 1)])
+    return lengthened(lambda more: nested(kind, more))
+
+
+def deepest():
+    bindings = ["arg 0 - -"] + [f"some - - {k}" for k in range(1023)]
+    generated = [(0, bindings, deep_rows(31, ["return 1023 1 -"]))]
+    return lengthened(lambda more: plan("0 0 1 2", SYMS + more, [], [], ["1 0 1 1 0 in - 0 1"], generated))
 
 
 def worked():
@@ -108,7 +124,7 @@ def example():
 
 
 def main():
-    shapes = {f.__name__: f for f in (worked, example, typical, literals, returns, deep, bottom, items, explode, nested, long)}
+    shapes = {f.__name__: f for f in (worked, example, typical, literals, returns, deep, bottom, items, explode, nested, long, deepest)}
     if len(sys.argv) < 2:
         sys.exit(__doc__)
     for shape in sys.argv[1:]:
