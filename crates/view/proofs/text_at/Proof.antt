@@ -1,9 +1,10 @@
 use Prim.Native.Nat.{ℕ}
 use mathlib.Core.Path.{ap, _∙_}
 use lib.ListN.{length}
-use Rattle.view.proofs.Laws.{text-is, text-none}
+use Rattle.view.proofs.Laws.{part-is, part-none}
 use Prim.Native.Nat.{min}
-use Rattle.layout.specs.View.{cut}
+use Rattle.rows.specs.View.{nth}
+use Rattle.layout.specs.View.{cut, text-of}
 use borrow.Author.Needs.{needs}
 use Rattle.view.proofs.text_at.Statement.{statement}
 use Rattle.view.proofs.text_at.Tie as tie
@@ -38,7 +39,8 @@ part-result-end c = search needs
 
 -- src/lib.rt:105:9
 returns : tie.Need-returns
-returns c = text-none (c .before .before .before .before .before .before .before .before .args .plan .now) (cut (c .before .before .before .before .before .before .before .before .args .words .now) (c .before .before .before .before .before .before .before .before .args .rows .now) (c .before .before .before .before .before .before .before .before .args .r)) (c .before .before .before .before .word .result) (c .before .before .lesser .result) (c .before .before .before .before .word .ensures) (c .before .before .lesser .ensures ∙ ap (λ (n : ℕ). min n (length (c .before .before .before .before .before .before .before .before .args .plan .now))) (c .before .before .before .word2 .ensures)) (c .before .if1 .taken)
+unfolding text-of
+returns c = part-none (c .before .before .before .before .before .before .before .before .args .plan .now) (nth (cut (c .before .before .before .before .before .before .before .before .args .words .now) (c .before .before .before .before .before .before .before .before .args .rows .now) (c .before .before .before .before .before .before .before .before .args .r)) 0) (nth (cut (c .before .before .before .before .before .before .before .before .args .words .now) (c .before .before .before .before .before .before .before .before .args .rows .now) (c .before .before .before .before .before .before .before .before .args .r)) 1) (c .before .before .before .before .word .result) (c .before .before .lesser .result) (c .before .before .before .before .word .ensures) (c .before .before .lesser .ensures ∙ ap (λ (n : ℕ). min n (length (c .before .before .before .before .before .before .before .before .args .plan .now))) (c .before .before .before .word2 .ensures)) (c .before .if1 .taken)
 
 -- src/lib.rt:107:5
 part-result-start-2 : tie.Need-part-result-start-2
@@ -50,7 +52,8 @@ part-result-end-2 c = search needs
 
 -- src/lib.rt:99:1
 returns-2 : tie.Need-returns-2
-returns-2 c = text-is (c .before .before .before .before .before .before .before .before .args .plan .now) (cut (c .before .before .before .before .before .before .before .before .args .words .now) (c .before .before .before .before .before .before .before .before .args .rows .now) (c .before .before .before .before .before .before .before .before .args .r)) (c .before .before .before .before .word .result) (c .before .before .lesser .result) (c .before .before .before .before .word .ensures) (c .before .before .lesser .ensures ∙ ap (λ (n : ℕ). min n (length (c .before .before .before .before .before .before .before .before .args .plan .now))) (c .before .before .before .word2 .ensures)) (c .before .if1 .left)
+unfolding text-of
+returns-2 c = part-is (c .before .before .before .before .before .before .before .before .args .plan .now) (nth (cut (c .before .before .before .before .before .before .before .before .args .words .now) (c .before .before .before .before .before .before .before .before .args .rows .now) (c .before .before .before .before .before .before .before .before .args .r)) 0) (nth (cut (c .before .before .before .before .before .before .before .before .args .words .now) (c .before .before .before .before .before .before .before .before .args .rows .now) (c .before .before .before .before .before .before .before .before .args .r)) 1) (c .before .before .before .before .word .result) (c .before .before .lesser .result) (c .before .before .before .before .word .ensures) (c .before .before .lesser .ensures ∙ ap (λ (n : ℕ). min n (length (c .before .before .before .before .before .before .before .before .args .plan .now))) (c .before .before .before .word2 .ensures)) (c .before .if1 .left)
 
 pub text-at-spec : {M : Type 1} → statement M
 text-at-spec =
