@@ -12,10 +12,10 @@ ghost use Rattle.layout.specs.View.{cut};
 pub fn list_below(words: &[u32], rows: &[u32], r: usize, header: usize, n: usize) -> bool
     ensures { λ b. ⌜ b ≡ every (λ q. ltb q n) (drop header (cut (now (words .entry)) (now (rows .entry)) r)) ⌝ }
 {
-    let end = view::row_len(words, rows, r);
+    let row = view::row(words, rows, r);
     let mut k = header;
-    while k < end {
-        if n <= view::word(words, rows, r, k) {
+    while k < row.len() {
+        if n <= view::wide(row[k]) {
             return false;
         }
         k += 1;
@@ -37,10 +37,10 @@ fn is_bound_below(q: usize, n: usize) -> bool
 pub fn patterns_below(words: &[u32], rows: &[u32], r: usize, n: usize) -> bool
     ensures { λ b. ⌜ b ≡ every (bound-below n) (patterns-in (drop 7 (cut (now (words .entry)) (now (rows .entry)) r))) ⌝ }
 {
-    let end = view::row_len(words, rows, r);
+    let row = view::row(words, rows, r);
     let mut k = 7;
-    while k < end {
-        if !is_bound_below(view::word(words, rows, r, k), n) {
+    while k < row.len() {
+        if !is_bound_below(view::wide(row[k]), n) {
             return false;
         }
         k += 1;
@@ -60,13 +60,13 @@ pub fn fields_below(
     requires { ⌜ header < 256 ⌝ }
     ensures { λ b. ⌜ b ≡ every (λ f. ltb (f .name) syms && ltb (f .ty) types) (fields-in (drop header (cut (now (words .entry)) (now (rows .entry)) r))) ⌝ }
 {
-    let end = view::row_len(words, rows, r);
+    let row = view::row(words, rows, r);
     let mut k = header;
-    while k + 1 < end {
-        if syms <= view::word(words, rows, r, k) {
+    while k + 1 < row.len() {
+        if syms <= view::wide(row[k]) {
             return false;
         }
-        if types <= view::word(words, rows, r, k + 1) {
+        if types <= view::wide(row[k + 1]) {
             return false;
         }
         k += 2;

@@ -16,7 +16,7 @@ use Rattle.plan.specs.Layout.{Below, arms, steps, nothing, below, may-stand, ne
 use Rattle.rows.specs.View.{nth, block-of, step-made}
 use Rattle.layout.specs.Scan.{sort-at, table-shaped, shaped}
 use Rattle.layout.specs.View.{cuts}
-use Rattle.words.proofs.Tables.{length-cuts}
+use Rattle.view.proofs.Laws.{cuts-length}
 use Rattle.levels.specs.Level.{below-at, stands, below-code}
 
 -- A ROW'S WORDS
@@ -112,7 +112,7 @@ module _ (stack : List ℕ) (depth : ℕ) (ws : List ℕ) (rs : List Row) (lv k 
 
 pub table-one : (sort : ℕ) (words rows : List ℕ) (from m : ℕ) → (eqb sort 0 || eqb sort 7) ≡ true → eqb m 1 ≡ table-shaped sort (cuts words rows from m)
 unfolding table-shaped
-table-one sort words rows from m e = rw (e, length-cuts)
+table-one sort words rows from m e = rw (e, cuts-length)
 
 pub table-block : (words rows : List ℕ) (from m : ℕ) → table-shaped 9 (cuts words rows from m) ≡ nested (steps ∷ []) (map block-of (cuts words rows from m))
 unfolding table-shaped

@@ -44,8 +44,8 @@ fn levels_fit(words: &[u32], rows: &[u32], from: usize, to: usize, above: &mut [
     let mut depth = 1;
     let mut r = from;
     while r < to {
-        let level = words::wide(words::word_at(words, rows, r, 0));
-        let kind = words::word_at(words, rows, r, 1);
+        let level = view::word(words, rows, r, 0);
+        let kind = view::cell(words, rows, r, 1);
         if depth <= level {
             return false;
         }
@@ -97,8 +97,8 @@ pub fn all_fit(
 {
     let mut i = 0;
     while i < j {
-        let from = words::entry(tables, i);
-        let to = words::entry(tables, i + 1);
+        let from = view::bound(tables, i);
+        let to = view::bound(tables, i + 1);
         if !table_fits(layout::sort_at(i), words, rows, from, to, above) {
             return false;
         }

@@ -21,18 +21,23 @@ module _ {A : Type 0} (xs : List A) (index : List ℕ) where
   drop-cuts i zero (suc a) = let y : 0 - suc a ≡ 0 = omega arith in rw y refl
   drop-cuts i (suc n) (suc a) = let z : i + suc a ≡ i + 1 + a = omega arith in let y : suc n - suc a ≡ n - a = omega arith in rw (z, y) (drop-cuts (i + 1) n a)
 
+-- the rows of a table, from its first up to the next table's
+pub cut-rows : (words rows tables : List ℕ) (n t from to : ℕ) → from ≡ getD tables t 0 → to ≡ getD tables (t + 1) 0 → to ≤ n
+    → cut (cuts words rows 0 n) tables t ≡ cuts words rows from (to - from)
+unfolding cut
+cut-rows words rows tables n t from to f g h =
+    let z : 0 + from ≡ from = omega arith in
+    rw (← f, ← g, take-cuts words rows 0 n to h, drop-cuts words rows 0 to from, z)
+
 module _ (words rows tables : List ℕ) (n j : ℕ) (x : Indexed tables n j) (size : j < length tables) where
   same-entry : (t : ℕ) → t ≤ j → getD (take (j + 1) tables) t 0 ≡ getD tables t 0
   same-entry t h = getD-take (j + 1) tables t 0 (omega arith)
 
   same-table : (t : ℕ) → t < j → cut (cuts words rows 0 n) tables t ≡ table-rows words rows (take (j + 1) tables) t
-  unfolding table-rows cut
+  unfolding table-rows
   same-table t h =
-      let a = getD tables t 0 in
-      let b = getD tables (t + 1) 0 in
-      let z : 0 + a ≡ a = omega arith in
       rw (same-entry t (omega arith), same-entry (t + 1) (omega arith))
-      (ap (drop a) (take-cuts words rows 0 n b (x .inside t h)) ∙ drop-cuts words rows 0 b a ∙ ap (λ (k : ℕ). cuts words rows k (b - a)) z)
+      (cut-rows words rows tables n t (getD tables t 0) (getD tables (t + 1) 0) refl refl (x .inside t h))
 
   same-tables : (t m : ℕ) → t + m ≤ j → cuts (cuts words rows 0 n) tables t m ≡ tables-from words rows (take (j + 1) tables) t m
   unfolding cuts tables-from

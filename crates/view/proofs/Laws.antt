@@ -9,7 +9,7 @@ use native.Mathlib.Omega.{arith}
 use lib.ListN.{length, take, drop, getD, length-take, length-drop, drop-of-length-le, List·getD-eq-default}
 use lib.Seq.{slice, take-all, take-nil, getD-drop, getD-take}
 use Rattle.rows.specs.View.{nth}
-use Rattle.layout.specs.View.{cut, cuts, text-of}
+use Rattle.layout.specs.View.{cut, cuts}
 use Rattle.view.specs.Tables.{table-rows, tables-from}
 
 -- past the end of an index
@@ -79,7 +79,7 @@ module _ (words rows tables : List ℕ) where
   tables-length t zero = refl
   tables-length t (suc n) = ap suc (tables-length (t + 1) n)
 
--- TEXTS
+-- PARTS
 
 take-min : (b : ℕ) (l : List ℕ) → take (min b (length l)) l ≡ take b l
 take-min b l = by-test (ltb b (length l)) refl where
@@ -97,16 +97,16 @@ part-slice (suc a) zero l h = absurd (omega arith)
 part-slice (suc a) (suc b) [] h = take-nil (suc b - suc a)
 part-slice (suc a) (suc b) (x ∷ l) h = let z : suc b - suc a ≡ b - a = omega arith in rw z (part-slice a b l (omega arith))
 
-module _ (plan ws : List ℕ) (from to : ℕ) (p : from ≡ nth ws 0) (q : to ≡ min (nth ws 1) (length plan)) where
-  text-slice : slice from to plan ≡ text-of plan ws
-  unfolding text-of
-  text-slice = rw (p, q, take-min (nth ws 1) plan) refl
+-- a part whose end may lie past the slice's, or before its start
+module _ (l : List ℕ) (a b from to : ℕ) (p : from ≡ a) (q : to ≡ min b (length l)) where
+  same-slice : slice from to l ≡ slice a b l
+  same-slice = rw (p, q, take-min b l) refl
 
-  pub text-is : from ≤ to → take (to - from) (drop from plan) ≡ text-of plan ws
-  text-is h = part-slice from to plan h ∙ text-slice
+  pub part-is : from ≤ to → take (to - from) (drop from l) ≡ slice a b l
+  part-is h = part-slice from to l h ∙ same-slice
 
-  pub text-none : to < from → take (to - to) (drop to plan) ≡ text-of plan ws
-  text-none h =
-      let s : length (take to plan) ≤ from = rw length-take (omega arith) in
-      let g : length (take to plan) ≤ to = rw length-take (omega arith) in
-      part-slice to to plan (omega arith) ∙ drop-of-length-le (take to plan) g ∙ sym (drop-of-length-le (take to plan) s) ∙ text-slice
+  pub part-none : to < from → take (to - to) (drop to l) ≡ slice a b l
+  part-none h =
+      let s : length (take to l) ≤ from = rw length-take (omega arith) in
+      let g : length (take to l) ≤ to = rw length-take (omega arith) in
+      part-slice to to l (omega arith) ∙ drop-of-length-le (take to l) g ∙ sym (drop-of-length-le (take to l) s) ∙ same-slice

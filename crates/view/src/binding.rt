@@ -1,7 +1,7 @@
 // Bindings: `Binding` of trie_again.rs 56, without the sources, which are the row's list.
 ghost use mathlib.Core.Path.{_≡_};
 ghost use Prim.Native.Nat.{_+_, _*_};
-ghost use Rattle.rows.specs.View.{binding-made, binding-of};
+ghost use Rattle.rows.specs.View.{nth, binding-of};
 ghost use Rattle.layout.specs.View.{cut};
 ghost use Rattle.view.specs.Told.{binding-told};
 
@@ -29,17 +29,26 @@ pub fn half(low: u32, high: u32) -> u64
     low as u64 + 4294967296 * (high as u64)
 }
 
-// The kind k of binding, with a and the four words of b.
-fn made(k: u32, a: u32, low: u32, v1: u32, v2: u32, v3: u32) -> Binding
-    ensures { λ r. ⌜ binding-told r ≡ binding-made k a (record { low = low; v1 = v1; v2 = v2; v3 = v3 }) ⌝ }
+// Two words of a row, the low one first.
+pub fn half_in(row: &[u32], low: usize, high: usize) -> u64
+    ensures { λ n. ⌜ n ≡ nth (now (row .entry)) low + 4294967296 * nth (now (row .entry)) high ⌝ }
 {
-    let n = a as usize;
+    half(super::word_in(row, low), super::word_in(row, high))
+}
+
+// The binding of row r. The words after the second are read only for the kinds that have them.
+pub fn binding_at(words: &[u32], rows: &[u32], r: usize) -> Binding
+    ensures { λ b. ⌜ binding-told b ≡ binding-of (cut (now (words .entry)) (now (rows .entry)) r) .binding ⌝ }
+{
+    let row = super::row(words, rows, r);
+    let k = super::word_in(row, 0);
+    let n = super::wide(super::word_in(row, 1));
     match k {
-        0 => Binding::ConstBool { val: a == 1 },
+        0 => Binding::ConstBool { val: n == 1 },
         1 => Binding::ConstInt {
             ty: n,
-            high: half(v2, v3),
-            low: half(low, v1),
+            high: half_in(row, 4, 5),
+            low: half_in(row, 2, 3),
         },
         2 => Binding::ConstPrim { val: n },
         3 => Binding::Argument { index: n },
@@ -48,7 +57,7 @@ fn made(k: u32, a: u32, low: u32, v1: u32, v2: u32, v3: u32) -> Binding
         6 => Binding::Iterator,
         7 => Binding::MakeVariant {
             ty: n,
-            variant: low as usize,
+            variant: super::wide(super::word_in(row, 2)),
         },
         8 => Binding::MakeStruct { ty: n },
         9 => Binding::MakeSome,
@@ -58,17 +67,4 @@ fn made(k: u32, a: u32, low: u32, v1: u32, v2: u32, v3: u32) -> Binding
         13 => Binding::ExtractStruct { field: n },
         _ => Binding::Iterator,
     }
-}
-
-// The binding of row r.
-pub fn binding_at(words: &[u32], rows: &[u32], r: usize) -> Binding
-    ensures { λ b. ⌜ binding-told b ≡ binding-of (cut (now (words .entry)) (now (rows .entry)) r) .binding ⌝ }
-{
-    let k = super::cell(words, rows, r, 0);
-    let a = super::cell(words, rows, r, 1);
-    let low = super::cell(words, rows, r, 2);
-    let v1 = super::cell(words, rows, r, 3);
-    let v2 = super::cell(words, rows, r, 4);
-    let v3 = super::cell(words, rows, r, 5);
-    made(k, a, low, v1, v2, v3)
 }

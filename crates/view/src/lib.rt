@@ -48,27 +48,51 @@ pub fn next_bound(index: &[u32], i: usize) -> usize
     0
 }
 
-// How many words row r has.
-pub fn row_len(words: &[u32], rows: &[u32], r: usize) -> usize
-    ensures { λ n. ⌜ n ≡ length (cut (now (words .entry)) (now (rows .entry)) r) ⌝ }
+// The words of row r, for those who read several of them.
+pub fn row<'a>(words: &'a [u32], rows: &[u32], r: usize) -> &'a [u32]
+    ensures { λ t. ⌜ now t ≡ cut (now (words .entry)) (now (rows .entry)) r ⌝ }
 {
     let from = bound(rows, r);
     let to = lesser(next_bound(rows, r), words.len());
     if to < from {
-        return 0;
+        return &words[to..to];
     }
-    to - from
+    &words[from..to]
+}
+
+// The word k of a row's words, 0 past their end.
+pub fn word_in(row: &[u32], k: usize) -> u32
+    ensures { λ n. ⌜ n ≡ nth (now (row .entry)) k ⌝ }
+{
+    if k < row.len() {
+        return row[k];
+    }
+    0
+}
+
+// How many words row r has.
+pub fn row_len(words: &[u32], rows: &[u32], r: usize) -> usize
+    ensures { λ n. ⌜ n ≡ length (cut (now (words .entry)) (now (rows .entry)) r) ⌝ }
+{
+    row(words, rows, r).len()
 }
 
 // The word k of row r.
 pub fn cell(words: &[u32], rows: &[u32], r: usize, k: usize) -> u32
     ensures { λ n. ⌜ n ≡ nth (cut (now (words .entry)) (now (rows .entry)) r) k ⌝ }
 {
-    if row_len(words, rows, r) <= k {
+    // no row has so many words, and the sum does not wrap; where k is a literal, this test costs nothing
+    if 4294967295 < k {
         return 0;
     }
-    let at = bound(rows, r);
-    words[at + k]
+    let at = bound(rows, r) + k;
+    if next_bound(rows, r) <= at {
+        return 0;
+    }
+    if words.len() <= at {
+        return 0;
+    }
+    words[at]
 }
 
 pub fn word(words: &[u32], rows: &[u32], r: usize, k: usize) -> usize
