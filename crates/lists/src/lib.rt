@@ -3,10 +3,8 @@ use tokens::Number;
 use values::Next;
 ghost use mathlib.Core.Path.{_≡_};
 ghost use Prim.Native.Nat.{_+_, _-_};
-ghost use mathlib.Core.List.{[]};
 ghost use mathlib.Core.Option.{some};
 ghost use lib.Dec.{eqb};
-ghost use lib.ListN.{getD};
 ghost use Rattle.text.specs.Split.{split};
 ghost use Rattle.plan.specs.Layout.{_⊛_, field, pattern-binding};
 ghost use Rattle.tokens.specs.Token.{told};
@@ -27,11 +25,16 @@ fn read_pattern_binding(t: &[u8]) -> Number
 fn put_field(t: &[u8], out: &mut [u32], at: Next) -> Next
     ensures { λ r. ⌜ Wrote (now (out .entry)) at (some field-words ⊛ field (now (t .entry))) r (now (out .exit)) ⌝ }
 {
-    if tokens::separators(t, 58) != 1 {
+    let e = tokens::find(t, 0, 58);
+    if e == t.len() {
         return Next::No;
     }
-    let p = values::put(tokens::read_number(tokens::part(t, 58, 0)), out, at);
-    values::put(tokens::read_number(tokens::part(t, 58, 1)), out, p)
+    let next = e + 1;
+    if tokens::find(t, next, 58) != t.len() {
+        return Next::No;
+    }
+    let p = values::put(tokens::read_number(&t[0..e]), out, at);
+    values::put(tokens::read_number(&t[next..]), out, p)
 }
 
 // Writes an item of a list.
@@ -66,11 +69,10 @@ fn put_items(sort: u32, t: &[u8], out: &mut [u32], at: Next) -> Next
     }
 }
 
-// Writes the column i of a line: a list.
-pub fn put_list(sort: u32, line: &[u8], i: usize, out: &mut [u32], at: Next) -> Next
-    ensures { λ r. ⌜ Wrote (now (out .entry)) at (list-words sort (getD (split (eqb 32) (now (line .entry))) i [])) r (now (out .exit)) ⌝ }
+// Writes a list.
+pub fn put_list(sort: u32, t: &[u8], out: &mut [u32], at: Next) -> Next
+    ensures { λ r. ⌜ Wrote (now (out .entry)) at (list-words sort (now (t .entry))) r (now (out .exit)) ⌝ }
 {
-    let t = tokens::part(line, 32, i);
     if tokens::equal(t, b"-") {
         return at;
     }

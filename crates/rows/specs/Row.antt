@@ -9,15 +9,9 @@ use Rattle.text.specs.Codes.{codes}
 use Rattle.text.specs.Split.{split}
 use Rattle.plan.specs.Layout.{_⊛_, row, at}
 use Rattle.tokens.specs.Token.{place}
-use Rattle.values.specs.declared.Next.{Next}
-use Rattle.values.specs.declared.Next.the-variants.{No}
 use Rattle.values.specs.Words.{_⧺_, word}
 use Rattle.values.specs.Value.{cell, wide, wide-words, kind-word}
 use Rattle.lists.specs.Items.{list-words}
-
--- the place, if the line has n values
-abbrev pub if-values : ℕ → List ℕ → Next → Next
-if-values n line p = cond (eqb (length (split (eqb 32) line)) n) p No
 
 -- `nopragmas log split threshold`
 unfoldable pub options-words : List ℕ → Option (List ℕ)

@@ -5,18 +5,7 @@ ghost use mathlib.Core.Path.{_≡_};
 ghost use Prim.Native.Nat.{_+_, _-_, _<_};
 ghost use lib.ListN.{length, getD};
 ghost use Rattle.values.specs.Words.{Wrote};
-ghost use Rattle.rows.specs.Row.{if-values, options-words, type-words, variant-words, term-words, generated-words, binding-words, block-words, text-words, row-words};
-
-// The place, if the line has n spaces, so n + 1 values.
-fn spaced(line: &[u8], n: usize, at: Next) -> Next
-    requires { ⌜ n < 65536 ⌝ }
-    ensures { λ r. ⌜ r ≡ if-values (n + 1) (now (line .entry)) at ⌝ }
-{
-    if tokens::separators(line, 32) == n {
-        return at;
-    }
-    Next::No
-}
+ghost use Rattle.rows.specs.Row.{options-words, type-words, variant-words, term-words, generated-words, binding-words, block-words, text-words, row-words};
 
 // The sort of a value for a kind, 0 past the last one.
 fn sort_of(sorts: &[u32], k: usize) -> u32
@@ -58,93 +47,158 @@ const BLOCK_LISTS: [u32; 10] = [1, 1, 1, 1, 3, 3, 3, 3, 3, 3];
 fn put_options(line: &[u8], out: &mut [u32], at: Next) -> Next
     ensures { λ r. ⌜ Wrote (now (out .entry)) at (options-words (now (line .entry))) r (now (out .exit)) ⌝ }
 {
-    let p0 = spaced(line, 3, at);
-    let p1 = values::put_cell(3, line, 0, out, p0);
-    let p2 = values::put_cell(3, line, 1, out, p1);
-    let p3 = values::put_cell(3, line, 2, out, p2);
-    values::put_cell(5, line, 3, out, p3)
+    let mut starts = [0usize; 10];
+    if tokens::columns(line, &mut starts) != 4 {
+        return Next::No;
+    }
+    let p1 = values::put_cell(3, tokens::column(line, &starts, 0), out, at);
+    let p2 = values::put_cell(3, tokens::column(line, &starts, 1), out, p1);
+    let p3 = values::put_cell(3, tokens::column(line, &starts, 2), out, p2);
+    values::put_cell(5, tokens::column(line, &starts, 3), out, p3)
 }
 
 fn put_type(line: &[u8], out: &mut [u32], at: Next) -> Next
     ensures { λ r. ⌜ Wrote (now (out .entry)) at (type-words (now (line .entry))) r (now (out .exit)) ⌝ }
 {
+    let mut starts = [0usize; 10];
+    if tokens::columns(line, &mut starts) != 6 {
+        return Next::No;
+    }
     let k = tokens::find_name(
         b"primenumunitnamedtuple",
         &TYPE_KINDS,
-        tokens::part(line, 32, 0),
+        tokens::column(line, &starts, 0),
     );
     let bits = sort_of(&TYPE_BITS, k);
-    let p0 = spaced(line, 5, at);
-    let p1 = values::put_kind(5, k, out, p0);
-    let p2 = values::put_cell(1, line, 1, out, p1);
-    let p3 = values::put_cell(bits, line, 2, out, p2);
-    let p4 = values::put_cell(bits, line, 3, out, p3);
-    let p5 = values::put_cell(sort_of(&TYPE_POSS, k), line, 4, out, p4);
-    lists::put_list(sort_of(&TYPE_LISTS, k), line, 5, out, p5)
+    let p1 = values::put_kind(5, k, out, at);
+    let p2 = values::put_cell(1, tokens::column(line, &starts, 1), out, p1);
+    let p3 = values::put_cell(bits, tokens::column(line, &starts, 2), out, p2);
+    let p4 = values::put_cell(bits, tokens::column(line, &starts, 3), out, p3);
+    let p5 = values::put_cell(
+        sort_of(&TYPE_POSS, k),
+        tokens::column(line, &starts, 4),
+        out,
+        p4,
+    );
+    lists::put_list(
+        sort_of(&TYPE_LISTS, k),
+        tokens::column(line, &starts, 5),
+        out,
+        p5,
+    )
 }
 
 fn put_variant(line: &[u8], out: &mut [u32], at: Next) -> Next
     ensures { λ r. ⌜ Wrote (now (out .entry)) at (variant-words (now (line .entry))) r (now (out .exit)) ⌝ }
 {
-    let k = tokens::find_name(b"unitnamedtuple", &SHAPE_KINDS, tokens::part(line, 32, 2));
-    let p0 = spaced(line, 3, at);
-    let p1 = values::put_cell(1, line, 0, out, p0);
-    let p2 = values::put_cell(1, line, 1, out, p1);
+    let mut starts = [0usize; 10];
+    if tokens::columns(line, &mut starts) != 4 {
+        return Next::No;
+    }
+    let k = tokens::find_name(
+        b"unitnamedtuple",
+        &SHAPE_KINDS,
+        tokens::column(line, &starts, 2),
+    );
+    let p1 = values::put_cell(1, tokens::column(line, &starts, 0), out, at);
+    let p2 = values::put_cell(1, tokens::column(line, &starts, 1), out, p1);
     let p3 = values::put_kind(3, k, out, p2);
-    lists::put_list(sort_of(&SHAPE_LISTS, k), line, 3, out, p3)
+    lists::put_list(
+        sort_of(&SHAPE_LISTS, k),
+        tokens::column(line, &starts, 3),
+        out,
+        p3,
+    )
 }
 
 fn put_term(line: &[u8], out: &mut [u32], at: Next) -> Next
     ensures { λ r. ⌜ Wrote (now (out .entry)) at (term-words (now (line .entry))) r (now (out .exit)) ⌝ }
 {
-    let p0 = spaced(line, 8, at);
-    let p1 = values::put_cell(1, line, 0, out, p0);
-    let p2 = values::put_cell(1, line, 1, out, p1);
-    let p3 = values::put_cell(1, line, 2, out, p2);
-    let p4 = values::put_cell(3, line, 3, out, p3);
-    let p5 = values::put_cell(3, line, 4, out, p4);
-    let p6 = values::put_cell(4, line, 5, out, p5);
-    let p7 = values::put_cell(4, line, 6, out, p6);
-    let p8 = values::put_cell(3, line, 7, out, p7);
-    lists::put_list(1, line, 8, out, p8)
+    let mut starts = [0usize; 10];
+    if tokens::columns(line, &mut starts) != 9 {
+        return Next::No;
+    }
+    let p1 = values::put_cell(1, tokens::column(line, &starts, 0), out, at);
+    let p2 = values::put_cell(1, tokens::column(line, &starts, 1), out, p1);
+    let p3 = values::put_cell(1, tokens::column(line, &starts, 2), out, p2);
+    let p4 = values::put_cell(3, tokens::column(line, &starts, 3), out, p3);
+    let p5 = values::put_cell(3, tokens::column(line, &starts, 4), out, p4);
+    let p6 = values::put_cell(4, tokens::column(line, &starts, 5), out, p5);
+    let p7 = values::put_cell(4, tokens::column(line, &starts, 6), out, p6);
+    let p8 = values::put_cell(3, tokens::column(line, &starts, 7), out, p7);
+    lists::put_list(1, tokens::column(line, &starts, 8), out, p8)
 }
 
 fn put_generated(line: &[u8], out: &mut [u32], at: Next) -> Next
     ensures { λ r. ⌜ Wrote (now (out .entry)) at (generated-words (now (line .entry))) r (now (out .exit)) ⌝ }
 {
-    let p0 = spaced(line, 0, at);
-    values::put_cell(1, line, 0, out, p0)
+    let mut starts = [0usize; 10];
+    if tokens::columns(line, &mut starts) != 1 {
+        return Next::No;
+    }
+    values::put_cell(1, tokens::column(line, &starts, 0), out, at)
 }
 
 fn put_binding(line: &[u8], out: &mut [u32], at: Next) -> Next
     ensures { λ r. ⌜ Wrote (now (out .entry)) at (binding-words (now (line .entry))) r (now (out .exit)) ⌝ }
 {
+    let mut starts = [0usize; 10];
+    if tokens::columns(line, &mut starts) != 4 {
+        return Next::No;
+    }
     let k = tokens::find_name(
         b"boolintprimargextractconstructitervariantstructsomematchsomematchtuplematchvariantextractstruct",
         &BINDING_KINDS,
-        tokens::part(line, 32, 0),
+        tokens::column(line, &starts, 0),
     );
-    let p0 = spaced(line, 3, at);
-    let p1 = values::put_kind(14, k, out, p0);
-    let p2 = values::put_cell(sort_of(&BINDING_AS, k), line, 1, out, p1);
-    let p3 = values::put_wide(sort_of(&BINDING_BS, k), line, 2, out, p2);
-    lists::put_list(1, line, 3, out, p3)
+    let p1 = values::put_kind(14, k, out, at);
+    let p2 = values::put_cell(
+        sort_of(&BINDING_AS, k),
+        tokens::column(line, &starts, 1),
+        out,
+        p1,
+    );
+    let p3 = values::put_wide(
+        sort_of(&BINDING_BS, k),
+        tokens::column(line, &starts, 2),
+        out,
+        p2,
+    );
+    lists::put_list(1, tokens::column(line, &starts, 3), out, p3)
 }
 
 fn put_block_row(line: &[u8], out: &mut [u32], at: Next) -> Next
     ensures { λ r. ⌜ Wrote (now (out .entry)) at (block-words (now (line .entry))) r (now (out .exit)) ⌝ }
 {
+    let mut starts = [0usize; 10];
+    if tokens::columns(line, &mut starts) != 5 {
+        return Next::No;
+    }
     let k = tokens::find_name(
         b"matchequalloopreturnboolintprimvariantstructsome",
         &BLOCK_KINDS,
-        tokens::part(line, 32, 1),
+        tokens::column(line, &starts, 1),
     );
-    let p0 = spaced(line, 4, at);
-    let p1 = values::put_cell(1, line, 0, out, p0);
+    let p1 = values::put_cell(1, tokens::column(line, &starts, 0), out, at);
     let p2 = values::put_kind(10, k, out, p1);
-    let p3 = values::put_cell(sort_of(&BLOCK_AS, k), line, 2, out, p2);
-    let p4 = values::put_wide(sort_of(&BLOCK_BS, k), line, 3, out, p3);
-    lists::put_list(sort_of(&BLOCK_LISTS, k), line, 4, out, p4)
+    let p3 = values::put_cell(
+        sort_of(&BLOCK_AS, k),
+        tokens::column(line, &starts, 2),
+        out,
+        p2,
+    );
+    let p4 = values::put_wide(
+        sort_of(&BLOCK_BS, k),
+        tokens::column(line, &starts, 3),
+        out,
+        p3,
+    );
+    lists::put_list(
+        sort_of(&BLOCK_LISTS, k),
+        tokens::column(line, &starts, 4),
+        out,
+        p4,
+    )
 }
 
 // A text's words: its start and its end in the plan.

@@ -1,12 +1,13 @@
 -- Tokens of a text: what the code finds between separators. Assumes nothing: these are definitions.
-use Prim.Native.Nat.{ℕ, suc, _-_, min}
+use Prim.Native.Nat.{ℕ, zero, suc, _+_, _-_, _≤_, _<_, min}
+use mathlib.Core.Path.{_≡_}
 use mathlib.Core.Bool.{Bool, true, cond, _&&_}
 use mathlib.Core.Option.{Option, some, none}
 use mathlib.Core.List.{List, [], _∷_}
 use lib.Dec.{eqb, leb}
-use lib.ListN.{take, drop}
-use Rattle.text.specs.Split.{same}
-use Rattle.plan.specs.Layout.{digits, decimal-from, beyond, digit, hex-digit, hex-digits, hex-from}
+use lib.ListN.{length, take, drop, getD}
+use Rattle.text.specs.Split.{split, same}
+use Rattle.plan.specs.Layout.{digits, decimal-from, beyond, digit, hex-digits, hex-from}
 use Rattle.tokens.specs.declared.Number.{Number}
 use Rattle.tokens.specs.declared.Number.the-variants.{Value, Wrong}
 
@@ -14,6 +15,15 @@ use Rattle.tokens.specs.declared.Number.the-variants.{Value, Wrong}
 unfoldable pub until : ℕ → List ℕ → ℕ
 until b [] = 0
 until b (c ∷ s) = let more = suc (until b s) in cond (eqb b c) 0 more
+
+-- Where column k of a line starts: after the space that ends the one before. Past the last one, where one more would
+unfoldable pub start : List ℕ → ℕ → ℕ
+start s zero = 0
+start s (suc k) = let at = start s k in suc (at + until 32 (drop at s))
+
+-- where each of the first nine columns of a line starts, with the place after the last of them
+pub record Columns (s starts : List ℕ) : Type 0 where
+  pub begins : (k : ℕ) → k ≤ length (split (eqb 32) s) → k < 10 → getD starts k 0 ≡ start s k
 
 -- the place of a text among names, or their count where it is none of them
 unfoldable pub place : List (List ℕ) → List ℕ → ℕ
@@ -36,9 +46,9 @@ rising n (a ∷ b ∷ starts) = leb a b && leb b n && rising n (b ∷ starts)
 unfoldable pub numeral : ℕ → List ℕ → Option ℕ
 numeral n s = cond (digits s) (some (min beyond (decimal-from n s))) none
 
--- what a hexadecimal digit says, 16 for another byte
-unfoldable pub hex-value : ℕ → ℕ
-hex-value c = cond (hex-digit c) (cond (digit c) (c - 48) (c - 87)) 16
+-- what a hexadecimal digit says
+abbrev pub hex-value : ℕ → ℕ
+hex-value c = cond (digit c) (c - 48) (c - 87)
 
 -- hexadecimal digits, after digits that say n
 unfoldable pub hex-numeral : ℕ → List ℕ → Option ℕ

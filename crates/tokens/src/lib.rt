@@ -1,13 +1,13 @@
-// Tokens of a text: parts between separators, names, numbers.
+// Tokens of a text: columns of a line, names, numbers.
 ghost use mathlib.Core.Path.{_≡_};
-ghost use mathlib.Core.Bool.{true, false, _||_};
+ghost use mathlib.Core.Bool.{true, false, cond, _&&_, _||_};
 ghost use Prim.Native.Nat.{_+_, _-_, _*_, _≤_, _<_, min};
 ghost use mathlib.Core.List.{[]};
 ghost use lib.Dec.{eqb};
 ghost use lib.ListN.{length, drop, getD};
 ghost use Rattle.text.specs.Split.{split, same};
-ghost use Rattle.plan.specs.Layout.{number, beyond};
-ghost use Rattle.tokens.specs.Token.{until, place, named, rising, numeral, hex-value, hex-numeral, told};
+ghost use Rattle.plan.specs.Layout.{number, beyond, hex-digit, hex-digits, hex-from};
+ghost use Rattle.tokens.specs.Token.{until, Columns, place, named, rising, numeral, hex-value, hex-numeral, told};
 
 // What a text says as a number.
 pub enum Number {
@@ -82,37 +82,44 @@ pub fn equal(s: &[u8], t: &[u8]) -> bool
     true
 }
 
-// How many bytes b a text has: its parts are one more.
-pub fn separators(s: &[u8], b: u8) -> usize
-    ensures { λ r. ⌜ r + 1 ≡ length (split (eqb b) (now (s .entry))) ⌝ }
+// 1 for a space.
+fn one_at_space(c: u8) -> usize
+    ensures { λ r. ⌜ (r ≡ cond (eqb 32 c) 1 0) × (r ≤ 1) ⌝ }
 {
-    let mut n = 0;
-    let mut i = 0;
-    while i < s.len() {
-        if s[i] == b {
-            n += 1;
-        }
-        i += 1;
-    }
-    n
+    if c == 32 { 1 } else { 0 }
 }
 
-// The part k of a text between the bytes b, an empty one where there are not so many.
-pub fn part(s: &[u8], b: u8, k: usize) -> &[u8]
-    ensures { λ r. ⌜ now r ≡ getD (split (eqb b) (now (s .entry))) k [] ⌝ }
+// Where the first nine columns of a line start, and where one more would; the answer is how many there are, 10 for all above nine.
+// At each byte the place after it is stored, and kept only if the byte is a space: a loop that does not branch on the bytes, since
+// no processor foresees where a short column ends.
+pub fn columns(line: &[u8], starts: &mut [usize; 10]) -> usize
+    requires { ⌜ length (now starts) ≡ 10 ⌝ }
+    ensures { λ r. ⌜ (r ≡ min 10 (length (split (eqb 32) (now (line .entry))))) × Columns (now (line .entry)) (now (starts .exit)) ⌝ }
 {
+    starts[0] = 0;
+    let mut k = 0;
     let mut i = 0;
-    let mut j = 0;
-    while j < k {
-        let e = find(s, i, b);
-        if e == s.len() {
-            return &s[e..e];
+    while k < 9 {
+        let next = i + 1;
+        let last = k + 1;
+        starts[last] = next;
+        if i == line.len() {
+            return last;
         }
-        i = e + 1;
-        j += 1;
+        k += one_at_space(line[i]);
+        i = next;
     }
-    let e = find(s, i, b);
-    &s[i..e]
+    10
+}
+
+// The column k of a line.
+pub fn column<'a, 'b>(line: &'a [u8], starts: &'b [usize; 10], k: usize) -> &'a [u8]
+    requires { ⌜ Columns (now line) (now starts) × (k < 9) × (k < length (split (eqb 32) (now line))) ⌝ }
+    ensures { λ r. ⌜ now r ≡ getD (split (eqb 32) (now (line .entry))) k [] ⌝ }
+{
+    let from = starts[k];
+    let to = starts[k + 1] - 1;
+    &line[from..to]
 }
 
 // A place as an index.
@@ -190,23 +197,54 @@ pub fn read_number(t: &[u8]) -> Number
     read_digits(t)
 }
 
-// What a hexadecimal digit says, 16 for another byte.
-fn hex_digit(c: u8) -> u32
-    ensures { λ r. ⌜ (r ≡ hex-value c) × (r ≤ 16) ⌝ }
+fn both(a: bool, b: bool) -> bool
+    ensures { λ r. ⌜ r ≡ (a && b) ⌝ }
 {
-    if c < 48 {
-        return 16;
+    if a { b } else { false }
+}
+
+// Whether a byte is a lower-case hexadecimal digit.
+fn is_hex_digit(c: u8) -> bool
+    ensures { λ r. ⌜ r ≡ hex-digit c ⌝ }
+{
+    either(both(48 <= c, c <= 57), both(97 <= c, c <= 102))
+}
+
+// Whether all bytes of a text are such digits. All are looked at, as in `is_near`.
+fn is_hex(t: &[u8]) -> bool
+    ensures { λ r. ⌜ r ≡ hex-digits (now (t .entry)) ⌝ }
+{
+    let mut hex = true;
+    let mut i = 0;
+    while i < t.len() {
+        hex = both(hex, is_hex_digit(t[i]));
+        i += 1;
     }
-    if c <= 57 {
-        return wide(c - 48);
+    hex
+}
+
+// What a hexadecimal digit says: its low four bits, with 9 more for a letter. No branch, since digits and letters come in no order
+// that a processor foresees.
+fn hex_value(c: u8) -> u32
+    requires { ⌜ hex-digit c ≡ true ⌝ }
+    ensures { λ r. ⌜ (r ≡ hex-value c) × (r < 16) ⌝ }
+{
+    let n = wide(c);
+    n % 16 + n / 64 * 9
+}
+
+// The number that at most eight hexadecimal digits say.
+fn hex_number(t: &[u8]) -> u32
+    requires { ⌜ (length (now t) ≤ 8) × (hex-digits (now t) ≡ true) ⌝ }
+    ensures { λ r. ⌜ r ≡ hex-from 0 (now (t .entry)) ⌝ }
+{
+    let mut n: u32 = 0;
+    let mut i = 0;
+    while i < t.len() {
+        n = n * 16 + hex_value(t[i]);
+        i += 1;
     }
-    if c < 97 {
-        return 16;
-    }
-    if c <= 102 {
-        return wide(c - 87);
-    }
-    16
+    n
 }
 
 // The number that at most eight lower-case hexadecimal digits say.
@@ -214,15 +252,8 @@ pub fn read_hex(t: &[u8]) -> Number
     requires { ⌜ length (now t) ≤ 8 ⌝ }
     ensures { λ r. ⌜ r ≡ told (hex-numeral 0 (now (t .entry))) ⌝ }
 {
-    let mut n: u32 = 0;
-    let mut i = 0;
-    while i < t.len() {
-        let d = hex_digit(t[i]);
-        if d == 16 {
-            return Number::Wrong;
-        }
-        n = n * 16 + d;
-        i += 1;
+    if is_hex(t) {
+        return Number::Value(hex_number(t));
     }
-    Number::Value(n)
+    Number::Wrong
 }

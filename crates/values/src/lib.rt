@@ -2,10 +2,6 @@
 use tokens::Number;
 ghost use mathlib.Core.Path.{_≡_};
 ghost use Prim.Native.Nat.{_+_, _-_, _≤_, _<_};
-ghost use mathlib.Core.List.{[]};
-ghost use lib.Dec.{eqb};
-ghost use lib.ListN.{getD};
-ghost use Rattle.text.specs.Split.{split};
 ghost use Rattle.plan.specs.Layout.{_⊛_, number-to, function-kind, bit};
 ghost use mathlib.Core.Option.{some};
 ghost use Rattle.tokens.specs.Token.{told};
@@ -118,11 +114,11 @@ fn read_cell(sort: u32, t: &[u8]) -> Number
     read_threshold(t)
 }
 
-// Writes the column i of a line: a value of one word.
-pub fn put_cell(sort: u32, line: &[u8], i: usize, out: &mut [u32], at: Next) -> Next
-    ensures { λ r. ⌜ Wrote (now (out .entry)) at (word (cell sort (getD (split (eqb 32) (now (line .entry))) i []))) r (now (out .exit)) ⌝ }
+// Writes a value of one word.
+pub fn put_cell(sort: u32, t: &[u8], out: &mut [u32], at: Next) -> Next
+    ensures { λ r. ⌜ Wrote (now (out .entry)) at (word (cell sort (now (t .entry)))) r (now (out .exit)) ⌝ }
 {
-    put(read_cell(sort, tokens::part(line, 32, i)), out, at)
+    put(read_cell(sort, t), out, at)
 }
 
 // Writes an integer's value: four words, the low one first.
@@ -138,14 +134,14 @@ fn put_integer(t: &[u8], out: &mut [u32], at: Next) -> Next
     put(tokens::read_hex(&t[0..8]), out, p2)
 }
 
-// Writes the column i of a line: a value of four words.
-pub fn put_wide(sort: u32, line: &[u8], i: usize, out: &mut [u32], at: Next) -> Next
-    ensures { λ r. ⌜ Wrote (now (out .entry)) at (some wide-words ⊛ wide sort (getD (split (eqb 32) (now (line .entry))) i [])) r (now (out .exit)) ⌝ }
+// Writes a value of four words.
+pub fn put_wide(sort: u32, t: &[u8], out: &mut [u32], at: Next) -> Next
+    ensures { λ r. ⌜ Wrote (now (out .entry)) at (some wide-words ⊛ wide sort (now (t .entry))) r (now (out .exit)) ⌝ }
 {
     if sort == 6 {
-        return put_integer(tokens::part(line, 32, i), out, at);
+        return put_integer(t, out, at);
     }
-    let p0 = put_cell(sort, line, i, out, at);
+    let p0 = put(read_cell(sort, t), out, at);
     let p1 = put(Number::Value(0), out, p0);
     let p2 = put(Number::Value(0), out, p1);
     put(Number::Value(0), out, p2)
