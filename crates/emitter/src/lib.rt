@@ -273,16 +273,21 @@ fn answer_any(plan: &[u8], out: &mut [u8], form: Form) -> Emitted
     )
 }
 
-// Buffers that are long enough for each plan take longer to clear than a small plan to answer.
-fn answer_plan(plan: &[u8], out: &mut [u8], form: Form) -> Emitted
+// Buffers that are long enough for each plan take longer to clear than a small plan to answer. Short and long plans have a function
+// each, which all entries call: so neither is compiled into them, and a short plan touches no stack that long buffers take.
+fn answer_short(plan: &[u8], out: &mut [u8], form: Form) -> Emitted
+    requires { ⌜ length (now plan) ≤ 2048 ⌝ }
     ensures { λ r. ⌜ Answers (answer-in form (length (now (out .entry))) (outcome (now (plan .entry)))) r (now (out .entry)) (now (out .exit)) ⌝ }
 {
     if plan.len() <= 512 {
         return answer_up_to_512(plan, out, form);
     }
-    if plan.len() <= 2048 {
-        return answer_up_to_2048(plan, out, form);
-    }
+    answer_up_to_2048(plan, out, form)
+}
+
+fn answer_long(plan: &[u8], out: &mut [u8], form: Form) -> Emitted
+    ensures { λ r. ⌜ Answers (answer-in form (length (now (out .entry))) (outcome (now (plan .entry)))) r (now (out .entry)) (now (out .exit)) ⌝ }
+{
     if plan.len() <= 8192 {
         return answer_up_to_8192(plan, out, form);
     }
@@ -296,19 +301,28 @@ fn answer_plan(plan: &[u8], out: &mut [u8], form: Form) -> Emitted
 pub fn emit(plan: &[u8], out: &mut [u8]) -> Emitted
     ensures { λ r. ⌜ Answers (answer (now (plan .entry)) (length (now (out .entry)))) r (now (out .entry)) (now (out .exit)) ⌝ }
 {
-    answer_plan(plan, out, Form::Whole)
+    if plan.len() <= 2048 {
+        return answer_short(plan, out, Form::Whole);
+    }
+    answer_long(plan, out, Form::Whole)
 }
 
 // The text of a plan's generated terms alone.
 pub fn emit_terms(plan: &[u8], out: &mut [u8]) -> Emitted
     ensures { λ r. ⌜ Answers (terms-answer (now (plan .entry)) (length (now (out .entry)))) r (now (out .entry)) (now (out .exit)) ⌝ }
 {
-    answer_plan(plan, out, Form::Terms)
+    if plan.len() <= 2048 {
+        return answer_short(plan, out, Form::Terms);
+    }
+    answer_long(plan, out, Form::Terms)
 }
 
 // What stands before the terms: header, trait and types.
 pub fn emit_items(plan: &[u8], out: &mut [u8]) -> Emitted
     ensures { λ r. ⌜ Answers (items-answer (now (plan .entry)) (length (now (out .entry)))) r (now (out .entry)) (now (out .exit)) ⌝ }
 {
-    answer_plan(plan, out, Form::Items)
+    if plan.len() <= 2048 {
+        return answer_short(plan, out, Form::Items);
+    }
+    answer_long(plan, out, Form::Items)
 }
