@@ -1,15 +1,23 @@
 -- The three demands, of the entries `emit` and `emit_terms` (src/lib.rt). For any plan and any buffer the contract of `emit` says
 -- `Answers (answer plan (length before)) r before after` of its result r and the buffer before and after; that of `emit_terms` says
 -- the same with `terms-answer`. So what is proved here from `Answers` holds of each of their calls. Assumes nothing.
-use Prim.Native.Nat.{ℕ, zero, suc, _≤_}
+use Prim.Native.Nat.{ℕ, zero, suc, _%_, _^_, _≤_}
 use mathlib.Core.Path.{_≡_, refl, sym, ap, _∙_}
 use mathlib.Core.Bool.{Bool, true, false, cond}
+use mathlib.Core.Option.{Option, some, none}
 use mathlib.Core.List.{List, [], _∷_, _++_}
 use native.Mathlib.Omega.{arith}
 use lib.Dec.{eqb, leb}
 use borrow.Author.Tests.{ne-eqb, le-leb}
 use lib.ListN.{length, getD, drop, take}
 use lib.Seq.{take-append-seam}
+use Rattle.literal.specs.declared.builtin_type.IntType.{IntType}
+use Rattle.literal.specs.declared.builtin_type.IntType.the-variants.{U128, I128}
+use Rattle.literal.specs.BuiltinType.{bits}
+use Rattle.literal.specs.Literal.{literal, odd}
+use Rattle.literal.specs.Quote.{quoted}
+use Rattle.literal.specs.Reference.{typed, untyped, integer-value, string-value}
+use Rattle.literal.specs.ReadBack.{extended}
 use Rattle.plan.specs.Plan.{Generated, Plan}
 use Rattle.plan.specs.Refusal.{Outcome, refused, accepted, outcome}
 use Rattle.codegen.specs.Piece.{render}
@@ -23,6 +31,8 @@ use Rattle.splitting.specs.Cases.{false-true}
 use Rattle.splitting.specs.Demand3.{SplitPair, split-arms, number, four-lines, edges-at, edges-have-rows, opened-rows, numbers, count, counting, BlockTable}
 use Rattle.splitting.specs.Theorems.{answers-agree, terms-answers-agree, closures-are-those-of-split-arms, closures-have-rows, numbered-in-opening-order, text-by-block-tables}
 use Rattle.splitting.specs.Accepted.{refused-number}
+use Rattle.read_back.specs.Tokens.{Token, string, integer, joined, whole-tokens, terms-tokens, odd-count, ReadsBack, Reads, _∈_}
+use Rattle.read_back.specs.Theorems.{whole-text-reads-back, terms-text-reads-back}
 use Rattle.emitter.specs.declared.Emitted.{Emitted}
 use Rattle.emitter.specs.declared.Emitted.the-variants.{Refused, Text}
 use Rattle.emitter.specs.Answered.{number-of, length-of, count-of, is-text, Answers}
@@ -48,7 +58,7 @@ demand-1-terms plan before p = text-or-refusal (terms-answer-given plan (length 
 
 -- DEMAND 2: "For every plan that passes refusals 1 to 10, with a buffer long enough: the bytes are those that the crate's release build
 -- writes from the same environments, bindings and blocks." The definitions `whole-text` and `terms-text` state these bytes; that they
--- are the crate's is tested (tools/try-definition, bench/run whole compare). "The count is that of the odd literals": `odds`.
+-- are the crate's is tested (tools/try-definition, bench/run whole compare).
 
 pub record Writes (t : List ℕ) (count : ℕ) (before : List ℕ) (r : Emitted) (after : List ℕ) : Type 0 where
   pub result : r ≡ Text (length t) count
@@ -88,6 +98,57 @@ wrote form plan before {l} {k} {after} = by-outcome (outcome plan) refl
     by-outcome : (o : Outcome) → outcome plan ≡ o → Answers (answer-of form (length before) o) (Text l k) before after → Wrote form plan l k after
     by-outcome (refused n) e q = absurd (omega (arith, refused-number plan n e, q .number))
     by-outcome (accepted p) e q = by-room p e (leb (length (form p)) (length before)) q
+
+-- "Read back one by one by the Rust Reference, each quoted text is the text it came from; a fixed-width integer literal is its value
+-- wrapped to its type, and a usize or isize literal is its value unless it is odd. The count is that of the odd literals: those whose
+-- value lies outside their type's range; literals of u128, i128 and non-integer types never count." The tokens of a plan are the quoted
+-- texts, the literals and the other bytes of its text (read_back/specs/Tokens); what the Reference says is in literal/specs/Reference.
+
+pub record ReadBack (plan : List ℕ) (tokens : Plan → List Token) (l k : ℕ) (after : List ℕ) : Type 0 where
+  pub p : Plan
+  pub is : outcome plan ≡ accepted p
+  -- the text is the tokens of its plan, one after the other
+  pub text-is : take l after ≡ joined (tokens p)
+  -- "each quoted text is the text it came from"
+  pub texts : {s : List ℕ} → string s ∈ tokens p → string-value (quoted s) ≡ some s
+  -- "a fixed-width integer literal is its value wrapped to its type"
+  pub wrapped : {t : IntType} {v : ℕ} → integer (some t) v ∈ tokens p → integer-value (literal (some t) v) ≡ some (typed t (v % 2 ^ bits t))
+  -- "and a usize or isize literal is its value unless it is odd": so is a literal of any integer type, and an odd one is not
+  pub unless-odd : {t : IntType} {v : ℕ} → integer (some t) v ∈ tokens p → odd (some t) v ≡ false → extended (integer-value (literal (some t) v)) ≡ some v
+  pub odd-is-not : {t : IntType} {v : ℕ} → integer (some t) v ∈ tokens p → odd (some t) v ≡ true → extended (integer-value (literal (some t) v)) ≡ some v → ⊥
+  -- a literal of another type is its value
+  pub untyped-is : {v : ℕ} → integer none v ∈ tokens p → integer-value (literal none v) ≡ some (untyped v)
+  -- "The count is that of the odd literals: those whose value lies outside their type's range"
+  pub count : k ≡ odd-count (tokens p)
+  -- "literals of u128, i128 and non-integer types never count"
+  pub u128-never : {v : ℕ} → integer (some U128) v ∈ tokens p → odd (some U128) v ≡ false
+  pub i128-never : {v : ℕ} → integer (some I128) v ∈ tokens p → odd (some I128) v ≡ false
+  pub untyped-never : {v : ℕ} → integer none v ∈ tokens p → odd none v ≡ false
+
+read-back : {form : Plan → List ℕ} (tokens : Plan → List Token) {plan : List ℕ} {l k : ℕ} {after : List ℕ} → (w : Wrote form plan l k after) → Reads (form (w .p)) (odds (w .p)) (tokens (w .p)) → ReadBack plan tokens l k after
+unfolding ReadsBack
+read-back tokens w r = record {
+  p = w .p;
+  is = w .is;
+  text-is = w .text ∙ r .made-of;
+  texts = λ m. r .each _ m;
+  wrapped = λ m. r .each _ m .wrapped;
+  unless-odd = λ m. r .each _ m .unless-odd;
+  odd-is-not = λ m. r .each _ m .odd-is-not;
+  untyped-is = λ m. r .each _ m .value;
+  count = w .count ∙ r .counted;
+  u128-never = λ m. r .each _ m .u128 refl;
+  i128-never = λ m. r .each _ m .i128 refl;
+  untyped-never = λ m. r .each _ m .never;
+}
+
+pub demand-2-read-back : (plan before : List ℕ) {l k : ℕ} {after : List ℕ} → Answers (answer plan (length before)) (Text l k) before after → ReadBack plan whole-tokens l k after
+unfolding answer
+demand-2-read-back plan before q = let w = wrote whole-text plan before q in read-back whole-tokens w (whole-text-reads-back plan (w .p) (w .is))
+
+pub demand-2-read-back-terms : (plan before : List ℕ) {l k : ℕ} {after : List ℕ} → Answers (terms-answer plan (length before)) (Text l k) before after → ReadBack plan terms-tokens l k after
+unfolding terms-answer
+demand-2-read-back-terms plan before q = let w = wrote terms-text plan before q in read-back terms-tokens w (terms-text-reads-back plan (w .p) (w .is))
 
 -- DEMAND 3: "Take any two plans that differ only in split and threshold, splitting off in one and on in the other, whatever the threshold,
 -- each accepted with its buffer. Their counts are equal. The split text becomes the other, byte for byte" by `closures-off`

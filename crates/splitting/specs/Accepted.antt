@@ -36,7 +36,7 @@ apply-holds Q P none x h k = tt
 apply-holds Q P (some f) none h k = tt
 apply-holds Q P (some f) (some a) h k = h a k
 
-then-holds : {A B : Type 0} (Q : A → Type 0) (P : B → Type 0) (o : Option A) (f : A → Option B) → Holds Q o → ((a : A) → Q a → Holds P (f a)) → Holds P (then o f)
+pub then-holds : {A B : Type 0} (Q : A → Type 0) (P : B → Type 0) (o : Option A) (f : A → Option B) → Holds Q o → ((a : A) → Q a → Holds P (f a)) → Holds P (then o f)
 unfolding Holds
 then-holds Q P none f h k = tt
 then-holds Q P (some a) f h k = k a h
@@ -96,7 +96,7 @@ split-tables (l ∷ ls) h = go (null l) (split-tables ls (and-right (plain l) (p
     go false k = push-tables l (split null ls) (and-left (plain l) (plains ls) h) k
 
 -- the last part is left out
-ended-holds : {A : Type 0} (P : List (List A) → Bool) (test : List A → Bool) → ((p : List A) (ps : List (List A)) → P (p ∷ ps) ≡ test p && P ps) → P [] ≡ true → (ps : List (List A)) → P ps ≡ true → Holds (λ qs. P qs ≡ true) (ended ps)
+pub ended-holds : {A : Type 0} (P : List (List A) → Bool) (test : List A → Bool) → ((p : List A) (ps : List (List A)) → P (p ∷ ps) ≡ test p && P ps) → P [] ≡ true → (ps : List (List A)) → P ps ≡ true → Holds (λ qs. P qs ≡ true) (ended ps)
 unfolding ended Holds
 ended-holds P test c n [] h = tt
 ended-holds P test c n (p ∷ []) h = cond-holds (λ qs. P qs ≡ true) (null p) (some []) n

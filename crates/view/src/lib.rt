@@ -81,18 +81,7 @@ pub fn row_len(words: &[u32], rows: &[u32], r: usize) -> usize
 pub fn cell(words: &[u32], rows: &[u32], r: usize, k: usize) -> u32
     ensures { λ n. ⌜ n ≡ nth (cut (now (words .entry)) (now (rows .entry)) r) k ⌝ }
 {
-    // no row has so many words, and the sum does not wrap; where k is a literal, this test costs nothing
-    if 4294967295 < k {
-        return 0;
-    }
-    let at = bound(rows, r) + k;
-    if next_bound(rows, r) <= at {
-        return 0;
-    }
-    if words.len() <= at {
-        return 0;
-    }
-    words[at]
+    word_in(row(words, rows, r), k)
 }
 
 pub fn word(words: &[u32], rows: &[u32], r: usize, k: usize) -> usize

@@ -1,0 +1,9 @@
+pub mod Tokens
+pub mod Theorems
+pub mod TokenLaws
+pub mod PieceLaws
+pub mod BlockLaws
+pub mod ItemLaws
+pub mod ValueLaws
+pub mod Accepted
+pub mod ReadLaws
