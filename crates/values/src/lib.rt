@@ -141,7 +141,7 @@ pub fn put_wide(sort: u32, t: &[u8], out: &mut [u32], at: Next) -> Next
     if sort == 6 {
         return put_integer(t, out, at);
     }
-    let p0 = put(read_cell(sort, t), out, at);
+    let p0 = put_cell(sort, t, out, at);
     let p1 = put(Number::Value(0), out, p0);
     let p2 = put(Number::Value(0), out, p1);
     put(Number::Value(0), out, p2)

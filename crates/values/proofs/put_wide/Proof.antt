@@ -4,15 +4,15 @@ use borrow.Author.Tests.{eq-eqb, ne-eqb, lt-ltb, le-ltb}
 use Rattle.plan.specs.Layout.{_⊛_}
 use Rattle.values.specs.Words.{said, word}
 use Rattle.values.specs.Value.{integer, wide, kind-word}
-use Rattle.values.proofs.Laws.{_⟫_, told-word, wide-other}
+use Rattle.values.proofs.Laws.{_⟫_, wide-other}
 use borrow.Author.Needs.{needs}
 use Rattle.values.proofs.put_wide.Statement.{statement}
 use Rattle.values.proofs.put_wide.Tie as tie
 use Rattle.values.proofs.put_wide.Reads as reads
 use Rattle.values.proofs.put_wide.Lts as lts
 use Rattle.values.proofs.put.Reads as put-reads
+use Rattle.values.proofs.put_cell.Reads as put-cell-reads
 use Rattle.values.proofs.put_integer.Reads as put-integer-reads
-use Rattle.values.proofs.read_cell.Reads as read-cell-reads
 
 -- src/lib.rt:142:9
 put-integer-requires : tie.Need-put-integer-requires
@@ -27,25 +27,21 @@ returns : tie.Need-returns
 unfolding wide
 returns c = rw (eq-eqb _ _ (c .before .before .before .before .if1 .taken)) (c .before .before .put-integer .ensures)
 
--- src/lib.rt:144:18
-read-cell-requires : tie.Need-read-cell-requires
-read-cell-requires c κs = search needs
-
 -- src/lib.rt:144:9
+put-cell-requires : tie.Need-put-cell-requires
+put-cell-requires c κs = search needs
+
+-- src/lib.rt:145:9
 put-requires : tie.Need-put-requires
 put-requires c κs = search needs
 
--- src/lib.rt:145:9
+-- src/lib.rt:146:9
 put-requires-2 : tie.Need-put-requires-2
 put-requires-2 c κs = search needs
 
--- src/lib.rt:146:9
+-- src/lib.rt:147:5
 put-requires-3 : tie.Need-put-requires-3
 put-requires-3 c κs = search needs
-
--- src/lib.rt:147:5
-put-requires-4 : tie.Need-put-requires-4
-put-requires-4 c κs = search needs
 
 -- src/lib.rt:138:1
 same-length-2 : tie.Need-same-length-2
@@ -54,7 +50,7 @@ same-length-2 c = search needs
 -- src/lib.rt:138:1
 returns-2 : tie.Need-returns-2
 unfolding said
-returns-2 c = rw (← wide-other _ _ (c .before .before .before .before .before .before .before .before .before .before .before .before .before .before .before .before .before .if1 .left)) (told-word _ (c .before .before .before .before .before .before .before .before .before .before .before .before .before .before .before .before .read-cell .ensures) (c .before .before .before .before .before .before .before .before .before .before .before .before .before .before .put .ensures) ⟫ c .before .before .before .before .before .before .before .before .before .before .put2 .ensures ⟫ c .before .before .before .before .before .before .put3 .ensures ⟫ c .before .before .put4 .ensures)
+returns-2 c = rw (← wide-other _ _ (c .before .before .before .before .before .before .before .before .before .before .before .before .before .before .before .before .if1 .left)) (c .before .before .before .before .before .before .before .before .before .before .before .before .before .before .put-cell .ensures ⟫ c .before .before .before .before .before .before .before .before .before .before .put .ensures ⟫ c .before .before .before .before .before .before .put2 .ensures ⟫ c .before .before .put3 .ensures)
 
 pub put-wide-spec : {M : Type 1} → statement M
 put-wide-spec =
@@ -63,10 +59,9 @@ put-wide-spec =
     put-integer-requires
     same-length
     returns
-    read-cell-requires
+    put-cell-requires
     put-requires
     put-requires-2
     put-requires-3
-    put-requires-4
     same-length-2
     returns-2)
