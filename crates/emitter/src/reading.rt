@@ -1,6 +1,12 @@
 // Reading and weights for crates above this one: a plan's bytes into buffers, what the buffers hold, and how a block's rows stand
 // below one another. `view/specs/Tables.antt` says which plan the buffers hold (`plan-in`).
 use reader::Laid;
+use view::binding::Binding;
+use view::block::Constraint;
+use view::block::ControlFlow;
+use view::environment::Term;
+use view::environment::TypeData;
+use view::environment::Variant;
 ghost use mathlib.Core.Path.{_≡_};
 ghost use mathlib.Core.List.{List, [], map};
 ghost use Prim.Native.Nat.{ℕ, _+_, _-_, _<_};
@@ -9,9 +15,10 @@ ghost use Rattle.plan.specs.Row.{level};
 ghost use Rattle.plan.specs.Refusal.{outcome};
 ghost use Rattle.codegen.specs.Block.{arm-count, block-weight};
 ghost use Rattle.splitting.specs.Demand3.{rows-below};
-ghost use Rattle.rows.specs.View.{nth, block-of};
+ghost use Rattle.rows.specs.View.{nth, type-of, variant-of, term-of, binding-of, block-of};
 ghost use Rattle.layout.specs.View.{cut, cuts, text-of};
 ghost use Rattle.view.specs.Tables.{table-rows};
+ghost use Rattle.view.specs.Told.{type-told, variant-told, term-told, binding-told, control-flow-told, control-flow-of, constraint-told, constraint-of};
 ghost use Rattle.reader.specs.Reading.{Says};
 ghost use Rattle.refusals.specs.Answered.{Indexes};
 
@@ -61,6 +68,48 @@ pub fn text_at<'a>(plan: &'a [u8], words: &[u32], rows: &[u32], r: usize) -> &'a
     ensures { λ t. ⌜ now t ≡ text-of (now (plan .entry)) (cut (now (words .entry)) (now (rows .entry)) r) ⌝ }
 {
     view::text_at(plan, words, rows, r)
+}
+
+// The type of row r; its fields are the list after five words.
+pub fn type_at(words: &[u32], rows: &[u32], r: usize) -> TypeData
+    ensures { λ t. ⌜ type-told t (drop 5 (cut (now (words .entry)) (now (rows .entry)) r)) ≡ type-of (cut (now (words .entry)) (now (rows .entry)) r) ⌝ }
+{
+    view::environment::type_data_at(words, rows, r)
+}
+
+// The variant of row r; its fields are the list after three words.
+pub fn variant_at(words: &[u32], rows: &[u32], r: usize) -> Variant
+    ensures { λ v. ⌜ variant-told v (drop 3 (cut (now (words .entry)) (now (rows .entry)) r)) ≡ variant-of (cut (now (words .entry)) (now (rows .entry)) r) ⌝ }
+{
+    view::environment::variant_data_at(words, rows, r)
+}
+
+// The term of row r; the types of its arguments are the list after eight words.
+pub fn term_at(words: &[u32], rows: &[u32], r: usize) -> Term
+    ensures { λ m. ⌜ term-told m (drop 8 (cut (now (words .entry)) (now (rows .entry)) r)) ≡ term-of (cut (now (words .entry)) (now (rows .entry)) r) ⌝ }
+{
+    view::environment::term_data_at(words, rows, r)
+}
+
+// The binding of row r; its sources are the list after six words.
+pub fn binding_at(words: &[u32], rows: &[u32], r: usize) -> Binding
+    ensures { λ b. ⌜ binding-told b ≡ binding-of (cut (now (words .entry)) (now (rows .entry)) r) .binding ⌝ }
+{
+    view::binding::binding_at(words, rows, r)
+}
+
+// What row r, a step, does; its `bind_order` is the list after seven words.
+pub fn control_flow_at(words: &[u32], rows: &[u32], r: usize) -> ControlFlow
+    ensures { λ c. ⌜ control-flow-told c ≡ control-flow-of (cut (now (words .entry)) (now (rows .entry)) r) ⌝ }
+{
+    view::block::control_flow_at(words, rows, r)
+}
+
+// What row r, an arm, asks; its bindings are the list after seven words.
+pub fn constraint_at(words: &[u32], rows: &[u32], r: usize) -> Constraint
+    ensures { λ c. ⌜ constraint-told c ≡ constraint-of (cut (now (words .entry)) (now (rows .entry)) r) ⌝ }
+{
+    view::block::constraint_at(words, rows, r)
 }
 
 // How many arms a match of a level has, of the rows from row `from` up to row `end`.

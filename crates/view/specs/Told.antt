@@ -17,8 +17,10 @@ use Rattle.view.specs.declared.environment.FunctionKind.the-variants as 
 use Rattle.view.specs.declared.environment.Shape.{Shape}
 use Rattle.view.specs.declared.environment.Shape.the-variants as s
 use Rattle.view.specs.declared.environment.Declared.{Declared}
+use Rattle.view.specs.declared.environment.Term.{Term}
 use Rattle.view.specs.declared.environment.TypeData.{TypeData}
 use Rattle.view.specs.declared.environment.TypeData.the-variants as t
+use Rattle.view.specs.declared.environment.Variant.{Variant}
 
 -- a value of 128 bits in two halves
 abbrev pub whole : ℕ → ℕ → ℕ
@@ -81,3 +83,10 @@ type-told (t.Builtin t) ws = plan.Builtin t
 type-told (t.Primitive n) ws = plan.Primitive n
 type-told (t.Enum d) ws = plan.Enum (declared-told d)
 type-told (t.Struct d s) ws = plan.Struct (declared-told d) (fields-told s ws)
+
+-- a variant and a term with the words of their lists
+abbrev pub variant-told : Variant → List ℕ → plan.Variant
+variant-told v ws = record { ty = v .ty; name = v .name; fields = fields-told (v .shape) ws }
+
+abbrev pub term-told : Term → List ℕ → plan.Term
+term-told m ws = record { name = m .name; pos = m .pos; ret-ty = m .«ret_ty»; multi = m .multi; partial = m .partial; ctor = function-told (m .ctor); xtor = function-told (m .xtor); infallible = m .infallible; arg-tys = ws }

@@ -8,9 +8,9 @@ ghost use lib.ListN.{getD, drop};
 ghost use Rattle.literal.specs.BuiltinType.{all};
 ghost use Rattle.literal.specs.declared.builtin_type.BuiltinType.the-variants as builtin;
 ghost use Rattle.plan.specs.Lookup.{fields-of, field-count};
-ghost use Rattle.rows.specs.View.{nth, function-of, shape-of, type-of, variant-of};
+ghost use Rattle.rows.specs.View.{nth, function-of, shape-of, type-of, variant-of, term-of};
 ghost use Rattle.layout.specs.View.{cut};
-ghost use Rattle.view.specs.Told.{function-told, fields-told, type-told};
+ghost use Rattle.view.specs.Told.{function-told, fields-told, type-told, variant-told, term-told};
 
 // A term's constructor or extractor.
 pub enum FunctionKind {
@@ -38,6 +38,25 @@ pub enum TypeData {
     Primitive(usize),
     Enum(Declared),
     Struct(Declared, Shape),
+}
+
+// A variant, without its fields, which are the row's list.
+pub struct Variant {
+    pub ty: usize,
+    pub name: usize,
+    pub shape: Shape,
+}
+
+// A term, without the types of its arguments, which are the row's list.
+pub struct Term {
+    pub name: usize,
+    pub pos: usize,
+    pub ret_ty: usize,
+    pub multi: bool,
+    pub partial: bool,
+    pub ctor: FunctionKind,
+    pub xtor: FunctionKind,
+    pub infallible: bool,
 }
 
 // The function kind that a word says.
@@ -96,6 +115,44 @@ pub fn type_data_at(words: &[u32], rows: &[u32], r: usize) -> TypeData
     }
     let s = shape_made(k - 2);
     TypeData::Struct(d, s)
+}
+
+// The variant of row r.
+pub fn variant_data_at(words: &[u32], rows: &[u32], r: usize) -> Variant
+    ensures { λ v. ⌜ variant-told v (drop 3 (cut (now (words .entry)) (now (rows .entry)) r)) ≡ variant-of (cut (now (words .entry)) (now (rows .entry)) r) ⌝ }
+{
+    let ty = super::word(words, rows, r, 0);
+    let name = super::word(words, rows, r, 1);
+    let shape = shape_made(super::word(words, rows, r, 2));
+    Variant {
+        ty: ty,
+        name: name,
+        shape: shape,
+    }
+}
+
+// The term of row r.
+pub fn term_data_at(words: &[u32], rows: &[u32], r: usize) -> Term
+    ensures { λ m. ⌜ term-told m (drop 8 (cut (now (words .entry)) (now (rows .entry)) r)) ≡ term-of (cut (now (words .entry)) (now (rows .entry)) r) ⌝ }
+{
+    let name = super::word(words, rows, r, 0);
+    let pos = super::word(words, rows, r, 1);
+    let ret_ty = super::word(words, rows, r, 2);
+    let multi = super::flag(words, rows, r, 3);
+    let partial = super::flag(words, rows, r, 4);
+    let ctor = function_kind_at(words, rows, r, 5);
+    let xtor = function_kind_at(words, rows, r, 6);
+    let infallible = super::flag(words, rows, r, 7);
+    Term {
+        name: name,
+        pos: pos,
+        ret_ty: ret_ty,
+        multi: multi,
+        partial: partial,
+        ctor: ctor,
+        xtor: xtor,
+        infallible: infallible,
+    }
 }
 
 // How many fields a shape has with the list of row r, which stands after `header` words.
