@@ -1,22 +1,29 @@
 // What the programs share.
 use emitter::Emitted;
+ghost use mathlib.Core.Path.{_≡_};
+ghost use lib.ListN.{take};
 
-// Prints the text that was written to the buffer, or `refused N`.
+// Prints the text that was written to the buffer, or `refused N`. No contract can say what is written.
 pub fn print(r: Emitted, out: &[u8]) {
     match r {
         Emitted::Refused { number } => print_refusal(number),
         Emitted::Text {
             length,
             count: _count,
-        } => print_first(out, length),
+        } => {
+            io::write_all(1, first(out, length));
+        }
     }
 }
 
-// The first n bytes: a text is never longer than its buffer.
-fn print_first(out: &[u8], n: usize) {
+// The first n bytes.
+pub fn first(out: &[u8], n: usize) -> &[u8]
+    ensures { λ t. ⌜ now t ≡ take n (now (out .entry)) ⌝ }
+{
     if n <= out.len() {
-        io::write_all(1, &out[..n]);
+        return &out[..n];
     }
+    out
 }
 
 fn print_refusal(number: u32) {
