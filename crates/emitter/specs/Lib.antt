@@ -2,4 +2,3 @@ pub mod Answered
 pub mod Held
 pub mod Texts
 pub mod EntryLaws
-pub mod Demands

@@ -1,0 +1,1 @@
+// The three demands as theorems about the entries, in specs/: Demand1, Demand2 and Demand3 have their sentences. Nothing here runs.
