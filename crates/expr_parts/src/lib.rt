@@ -179,8 +179,8 @@ pub fn variant_name(
 ) -> Written
     ensures { λ r. ⌜ ((env : Environment) (index : List ℕ) (d : ℕ) (q : Marks) → Holds env (now (plan .entry)) (now (words .entry)) (now (rows .entry)) (now (tables .entry)) index → Emits end env d (say (type ty ∷ fix "::" refl ∷ sym name ∷ [])) (now (out .entry)) (w .at) (w .odd) q (now (out .exit)) (r .at) (r .odd) q) ⌝ }
 {
-    let at = put_type(out, w.at, end, plan, words, rows, tables, ty);
-    let at = put_bytes(out, at, end, b"::");
+    let typed = put_type(out, w.at, end, plan, words, rows, tables, ty);
+    let at = put_bytes(out, typed, end, b"::");
     let at = put_sym(out, at, end, plan, words, rows, tables, name);
     Written { at: at, odd: w.odd }
 }

@@ -22,8 +22,8 @@ pub fn put_file(
 ) -> usize
     ensures { λ r. ⌜ ((env : Environment) (index : List ℕ) → Holds env (now (plan .entry)) (now (words .entry)) (now (rows .entry)) (now (tables .entry)) index → Puts end (getD (env .files) n []) (now (out .entry)) at (now (out .exit)) r) ⌝ }
 {
-    let r = view::row_at(rows, tables, 1, n);
-    put_bytes(out, at, end, view::text_at(plan, words, rows, r))
+    let file = view::row_at(rows, tables, 1, n);
+    put_bytes(out, at, end, view::text_at(plan, words, rows, file))
 }
 
 pub fn put_sym(
@@ -38,8 +38,8 @@ pub fn put_sym(
 ) -> usize
     ensures { λ r. ⌜ ((env : Environment) (index : List ℕ) → Holds env (now (plan .entry)) (now (words .entry)) (now (rows .entry)) (now (tables .entry)) index → Puts end (sym-text env n) (now (out .entry)) at (now (out .exit)) r) ⌝ }
 {
-    let r = view::row_at(rows, tables, 2, n);
-    put_bytes(out, at, end, view::text_at(plan, words, rows, r))
+    let sym = view::row_at(rows, tables, 2, n);
+    put_bytes(out, at, end, view::text_at(plan, words, rows, sym))
 }
 
 pub fn put_pos(
@@ -54,8 +54,8 @@ pub fn put_pos(
 ) -> usize
     ensures { λ r. ⌜ ((env : Environment) (index : List ℕ) → Holds env (now (plan .entry)) (now (words .entry)) (now (rows .entry)) (now (tables .entry)) index → Puts end (pos-text env n) (now (out .entry)) at (now (out .exit)) r) ⌝ }
 {
-    let r = view::row_at(rows, tables, 3, n);
-    put_bytes(out, at, end, view::text_at(plan, words, rows, r))
+    let pos = view::row_at(rows, tables, 3, n);
+    put_bytes(out, at, end, view::text_at(plan, words, rows, pos))
 }
 
 pub fn put_quoted_sym(
@@ -70,8 +70,8 @@ pub fn put_quoted_sym(
 ) -> usize
     ensures { λ r. ⌜ ((env : Environment) (index : List ℕ) → Holds env (now (plan .entry)) (now (words .entry)) (now (rows .entry)) (now (tables .entry)) index → Puts end (quoted (sym-text env n)) (now (out .entry)) at (now (out .exit)) r) ⌝ }
 {
-    let r = view::row_at(rows, tables, 2, n);
-    put_quoted(out, at, end, view::text_at(plan, words, rows, r))
+    let quoted_sym = view::row_at(rows, tables, 2, n);
+    put_quoted(out, at, end, view::text_at(plan, words, rows, quoted_sym))
 }
 
 pub fn put_quoted_pos(
@@ -86,6 +86,6 @@ pub fn put_quoted_pos(
 ) -> usize
     ensures { λ r. ⌜ ((env : Environment) (index : List ℕ) → Holds env (now (plan .entry)) (now (words .entry)) (now (rows .entry)) (now (tables .entry)) index → Puts end (quoted (pos-text env n)) (now (out .entry)) at (now (out .exit)) r) ⌝ }
 {
-    let r = view::row_at(rows, tables, 3, n);
-    put_quoted(out, at, end, view::text_at(plan, words, rows, r))
+    let quoted_pos = view::row_at(rows, tables, 3, n);
+    put_quoted(out, at, end, view::text_at(plan, words, rows, quoted_pos))
 }
