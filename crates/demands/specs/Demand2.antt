@@ -3,7 +3,7 @@ use Prim.Native.Nat.{ℕ, _%_, _^_, _≤_}
 use mathlib.Core.Path.{_≡_, refl, _∙_}
 use mathlib.Core.Bool.{true, false}
 use mathlib.Core.Option.{some, none}
-use mathlib.Core.List.{List, _++_}
+use mathlib.Core.List.{List, [], _++_}
 use borrow.Author.Tests.{le-leb}
 use lib.ListN.{length, drop, take}
 use Rattle.literal.specs.declared.builtin_type.IntType.{IntType}
@@ -16,11 +16,14 @@ use Rattle.literal.specs.ReadBack.{extended}
 use Rattle.plan.specs.Plan.{Plan}
 use Rattle.plan.specs.Refusal.{accepted, outcome}
 use Rattle.codegen.specs.Terms.{terms-text, odds}
+use Rattle.codegen.specs.Items.{items}
 use Rattle.codegen.specs.Answer.{answer-of, answer, terms-answer, whole-text}
 use Rattle.splitting.specs.Cases.{false-true}
 use Rattle.splitting.specs.Demand3.{number, count}
-use Rattle.read_back.specs.Tokens.{Token, string, integer, joined, whole-tokens, terms-tokens, odd-count, ReadsBack, Reads, _∈_}
+use Rattle.read_back.specs.Tokens.{Token, string, integer, joined, piece-tokens, whole-tokens, terms-tokens, odd-count, ReadsBack, Reads, _∈_}
 use Rattle.read_back.specs.Theorems.{whole-text-reads-back, terms-text-reads-back}
+use Rattle.origin.specs.Origin.{Origins}
+use Rattle.origin.specs.Theorems.{whole-text-origins, terms-text-origins}
 use Rattle.emitter.specs.declared.Emitted.{Emitted}
 use Rattle.emitter.specs.declared.Emitted.the-variants.{Refused, Text}
 use Rattle.emitter.specs.Answered.{Answers}
@@ -100,3 +103,22 @@ demand-2-read-back plan before q = let w = wrote whole-text plan before q in rea
 pub demand-2-read-back-terms : (plan before : List ℕ) {l k : ℕ} {after : List ℕ} → Answers (terms-answer plan (length before)) (Text l k) before after → ReadBack plan terms-tokens l k after
 unfolding terms-answer
 demand-2-read-back-terms plan before q = let w = wrote terms-text plan before q in read-back terms-tokens w (terms-text-reads-back plan (w .p) (w .is))
+
+-- "Literals are what `int` bindings and `int` arms write, and nothing in a plan's own texts or the fixed lines" (document 01): where the
+-- literals and quoted texts of the text come from. `head`: the tokens that stand before the terms.
+
+pub record FromRows (plan : List ℕ) (head tokens : Plan → List Token) (l : ℕ) (after : List ℕ) : Type 0 where
+  pub p : Plan
+  pub is : outcome plan ≡ accepted p
+  pub text-is : take l after ≡ joined (tokens p)
+  pub origins : Origins p (head p) (tokens p)
+
+pub demand-2-origins : (plan before : List ℕ) {l k : ℕ} {after : List ℕ} → Answers (answer plan (length before)) (Text l k) before after → FromRows plan (λ p. piece-tokens (p .env) 0 (items p)) whole-tokens l after
+demand-2-origins plan before {l} {k} {after} q =
+    let r : ReadBack plan whole-tokens l k after = demand-2-read-back plan before q in
+    record { p = r .p; is = r .is; text-is = r .text-is; origins = whole-text-origins (r .p) }
+
+pub demand-2-origins-terms : (plan before : List ℕ) {l k : ℕ} {after : List ℕ} → Answers (terms-answer plan (length before)) (Text l k) before after → FromRows plan (λ p. []) terms-tokens l after
+demand-2-origins-terms plan before {l} {k} {after} q =
+    let r : ReadBack plan terms-tokens l k after = demand-2-read-back-terms plan before q in
+    record { p = r .p; is = r .is; text-is = r .text-is; origins = terms-text-origins (r .p) }
