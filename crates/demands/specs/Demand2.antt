@@ -21,9 +21,8 @@ use Rattle.codegen.specs.Answer.{answer-of, answer, terms-answer, whole-text}
 use Rattle.splitting.specs.Cases.{false-true}
 use Rattle.splitting.specs.Demand3.{number, count}
 use Rattle.read_back.specs.Tokens.{Token, string, integer, joined, piece-tokens, whole-tokens, terms-tokens, odd-count, ReadsBack, Reads, _∈_}
-use Rattle.read_back.specs.Theorems.{whole-text-reads-back, terms-text-reads-back}
-use Rattle.origin.specs.Origin.{Origins}
-use Rattle.origin.specs.Theorems.{whole-text-origins, terms-text-origins}
+use Rattle.read_back.specs.Origins.{Origins}
+use Rattle.read_back.specs.Theorems.{whole-text-reads-back, terms-text-reads-back, whole-text-origins, terms-text-origins}
 use Rattle.emitter.specs.declared.Emitted.{Emitted}
 use Rattle.emitter.specs.declared.Emitted.the-variants.{Refused, Text}
 use Rattle.emitter.specs.Answered.{Answers}

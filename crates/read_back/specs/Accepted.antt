@@ -18,8 +18,7 @@ use Rattle.plan.specs.Layout.{text-row, table, environment, plan-of, read}
 use Rattle.plan.specs.Refusal.{every, allowed, bytes-allowed, fits-length, refused, accepted, laid-out, outcome}
 use Rattle.splitting.specs.Cases.{and-left, and-right, and-both}
 use Rattle.splitting.specs.Accepted.{Holds, apply-holds, then-holds, apply-any, ended-holds, accepted-read}
-use Rattle.read_back.specs.BlockLaws.{generated-asks}
-use Rattle.read_back.specs.ValueLaws.{small, table-holds, all-small}
+use Rattle.read_back.specs.ValueLaws.{table-small, table-holds, all-small}
 
 -- CUTTING
 
@@ -74,14 +73,14 @@ environment-printed ts h =
 
 pub record Readable (p : Plan) : Type 0 where
   pub texts : Printed (p .env)
-  pub values : every (generated-asks small) (p .generated) ≡ true
+  pub values : every table-small (p .generated) ≡ true
 
 plan-readable : (ts : List (List (List ℕ))) → every (every printed) ts ≡ true → Holds Readable (plan-of ts)
 unfolding plan-of Holds
 plan-readable ts h =
-    apply-holds (λ gs. every (generated-asks small) gs ≡ true) Readable _ _
-    (apply-holds Printed (λ f. (gs : List Generated) → every (generated-asks small) gs ≡ true → Readable (f gs)) _ _
-    (apply-any (λ f. (e : Environment) → Printed e → (gs : List Generated) → every (generated-asks small) gs ≡ true → Readable (f e gs)) (some _) _ (λ o e c gs n. record { texts = c; values = n }))
+    apply-holds (λ gs. every table-small gs ≡ true) Readable _ _
+    (apply-holds Printed (λ f. (gs : List Generated) → every table-small gs ≡ true → Readable (f gs)) _ _
+    (apply-any (λ f. (e : Environment) → Printed e → (gs : List Generated) → every table-small gs ≡ true → Readable (f e gs)) (some _) _ (λ o e c gs n. record { texts = c; values = n }))
     (environment-printed ts h))
     (all-small (drop 7 ts))
 

@@ -1,9 +1,8 @@
 pub mod Tokens
+pub mod Origins
 pub mod Theorems
 pub mod TokenLaws
-pub mod PieceLaws
-pub mod BlockLaws
-pub mod ItemLaws
+pub mod TokenOrigins
 pub mod ValueLaws
 pub mod Accepted
 pub mod ReadLaws

@@ -1,24 +1,32 @@
--- Each token reads back, where the values of literals are below 2 ^ 128 and the plan's texts printable.
-use Prim.Native.Nat.{ℕ, _+_, _^_, _<_}
-use mathlib.Core.Path.{_≡_, sym as back, ap, _∙_}
+-- Each token reads back, where the values of `int` rows are below 2 ^ 128 and the plan's texts printable.
+use Prim.Native.Nat.{ℕ, zero, suc, _^_, _<_}
+use mathlib.Core.Path.{_≡_, refl, sym as back, ap, _∙_}
 use mathlib.Core.Bool.{true, false, not}
 use mathlib.Core.Option.{Option, some, none}
 use mathlib.Core.List.{List, [], _∷_}
 use borrow.Author.Tests.{ltb-true}
+use lib.ListN.{getD}
 use Rattle.literal.specs.declared.builtin_type.IntType.{IntType}
 use Rattle.literal.specs.Literal.{literal, odd}
-use Rattle.literal.specs.Reference.{integer-value}
+use Rattle.literal.specs.Quote.{quoted}
+use Rattle.literal.specs.Reference.{integer-value, string-value}
 use Rattle.literal.specs.ReadBack.{extended, read-back, read-back-untyped, read-back-not-odd, read-back-outside, u128-never-odd, i128-never-odd, other-never-odd, quoted-read-back}
-use Rattle.plan.specs.Plan.{Environment, Plan}
-use Rattle.codegen.specs.Piece.{Piece, fix, file, sym, pos, type, quoted-sym, quoted-pos, num, var, new, lit, brace, unbrace, break}
-use Rattle.codegen.specs.Block.{words, overflow, What, line, edge, Part}
-use Rattle.codegen.specs.Terms.{parts}
+use Rattle.plan.specs.Plan.{Options, Term, Environment, Generated, Plan}
+use Rattle.plan.specs.Binding.{BindingRow}
+use Rattle.plan.specs.Constraint as constraint
+use Rattle.plan.specs.Row.{Row, arm}
+use Rattle.plan.specs.Lookup.{binding-at}
+use Rattle.plan.specs.Refusal.{every}
+use Rattle.codegen.specs.Items.{items}
+use Rattle.codegen.specs.Terms.{term-parts, all-parts}
 use Rattle.splitting.specs.Cases.{and-left, and-right, false-true}
-use Rattle.read_back.specs.Tokens.{token, piece-tokens, what-tokens, part-tokens, terms-tokens, IntegerReadsBack, ReadsBack}
-use Rattle.read_back.specs.TokenLaws.{Each, each-append}
-use Rattle.read_back.specs.PieceLaws.{asks, all}
-use Rattle.read_back.specs.BlockLaws.{what-asks, parts-ask, parts-fine}
-use Rattle.read_back.specs.ValueLaws.{small}
+use Rattle.origin.specs.Origin.{Origin, of-binding, of-arm, of-name, of-return, of-declared, term-of, binding-int, row-int, int-at}
+use Rattle.origin.specs.BlockOrigins.{term-fine}
+use Rattle.read_back.specs.Tokens.{Token, string, integer, other, piece-tokens, part-tokens, terms-tokens, odd-count, IntegerReadsBack, ReadsBack}
+use Rattle.read_back.specs.TokenLaws.{Each, each-append, each-map}
+use Rattle.read_back.specs.Origins.{LiteralOf, QuotedText, logged-name, logged-position, last-name, last-position}
+use Rattle.read_back.specs.TokenOrigins.{IsOther, items-other, TokenOf, tokens-append, parts-each}
+use Rattle.read_back.specs.ValueLaws.{small, int-small, table-small}
 use Rattle.read_back.specs.Accepted.{Printed, Readable, text-printable}
 
 -- a literal that is its value is not odd
@@ -40,46 +48,70 @@ integer-reads t v h = record {
   i128 = λ e. rw e (i128-never-odd v);
 }
 
--- of each token: the pieces' values are small, and the plan's texts printable
-module _ (e : Environment) (h : Printed e) where
-  token-reads : (d : ℕ) (p : Piece) → asks small p ≡ true → ReadsBack (token e d p)
-  unfolding token ReadsBack
-  token-reads d (quoted-sym n) g = quoted-read-back _ (text-printable (e .syms) n (h .syms))
-  token-reads d (quoted-pos n) g = quoted-read-back _ (text-printable (e .poss) n (h .poss))
-  token-reads d (lit (some t) v) g = integer-reads t v (ltb-true v (2 ^ 128) g)
-  token-reads d (lit none v) g = record { value = read-back-untyped v (ltb-true v (2 ^ 128) g); never = other-never-odd v }
-  token-reads d (fix t k) g = tt
-  token-reads d (file n) g = tt
-  token-reads d (sym n) g = tt
-  token-reads d (pos n) g = tt
-  token-reads d (type n) g = tt
-  token-reads d (num n) g = tt
-  token-reads d (var n) g = tt
-  token-reads d (new n) g = tt
-  token-reads d brace g = tt
-  token-reads d unbrace g = tt
-  token-reads d (break k) g = tt
+-- of each token: its row's value is small, or its text is printable
+module _ (e : Environment) (h : Printed e) (g : Generated) (k : table-small g ≡ true) where
+  binding-small : (bs : List BindingRow) → every (λ b. int-small (binding-int (b .binding))) bs ≡ true → (n : ℕ) → int-small (binding-int (binding-at bs n .binding)) ≡ true
+  unfolding every
+  binding-small [] f n = refl
+  binding-small (b ∷ bs) f zero = and-left (int-small (binding-int (b .binding))) _ f
+  binding-small (b ∷ bs) f (suc n) = binding-small bs (and-right (int-small (binding-int (b .binding))) _ f) n
 
-  pub pieces-read : (d : ℕ) (ps : List Piece) → all small ps ≡ true → Each ReadsBack (piece-tokens e d ps)
-  unfolding piece-tokens Each
-  pieces-read d [] g = tt
-  pieces-read d (p ∷ ps) g = (token-reads d p (and-left (asks small p) (all small ps) g), pieces-read d ps (and-right (asks small p) (all small ps) g))
+  row-small : (rs : List Row) → every (λ r. int-small (row-int r)) rs ≡ true → (n : ℕ) → int-small (row-int (getD rs n (arm 0 constraint.Some []))) ≡ true
+  unfolding every
+  row-small [] f n = refl
+  row-small (r ∷ rs) f zero = and-left (int-small (row-int r)) _ f
+  row-small (r ∷ rs) f (suc n) = row-small rs (and-right (int-small (row-int r)) _ f) n
 
-  what-reads : (d k : ℕ) (w : What) → what-asks small w ≡ true → Each ReadsBack (what-tokens e d k w)
-  unfolding what-tokens Each ReadsBack
-  what-reads d k (line (words ps)) g = pieces-read d ps g
-  what-reads d k (line overflow) g = (tt, tt)
-  what-reads d k (edge x) g = (tt, tt)
+  origin-small : (x : Origin) → int-small (int-at g x) ≡ true
+  origin-small (of-binding b) = binding-small (g .bindings) (and-left (every (λ b. int-small (binding-int (b .binding))) (g .bindings)) _ k) b
+  origin-small (of-arm j) = row-small (g .rows) (and-right (every (λ b. int-small (binding-int (b .binding))) (g .bindings)) _ k) j
+  origin-small of-name = refl
+  origin-small (of-return j) = refl
+  origin-small of-declared = refl
 
-  parts-read : (ps : List Part) → parts-ask small ps ≡ true → Each ReadsBack (part-tokens e ps)
-  unfolding part-tokens Each ReadsBack
-  parts-read [] g = tt
-  parts-read (p ∷ ps) g = (
-    tt,
-    each-append ReadsBack (what-tokens e (p .around + p .base) (p .around) (p .what)) _ (what-reads (p .around + p .base) (p .around) (p .what) (and-left (what-asks small (p .what)) (parts-ask small ps) g))
-        (tt, parts-read ps (and-right (what-asks small (p .what)) (parts-ask small ps) g)),
-  )
+  literal-small : {t : Option IntType} {v : ℕ} → LiteralOf e g t v → v < 2 ^ 128
+  literal-small {t} {v} x = ltb-true v (2 ^ 128) (rw (x .is) at (origin-small (x .origin)))
+
+  text-reads : {i : Option ℕ} {s : List ℕ} → QuotedText e g i s → string-value (quoted s) ≡ some s
+  text-reads (logged-name i l r q bs z) = quoted-read-back _ (text-printable (e .syms) (term-of e g .name) (h .syms))
+  text-reads (logged-position i l r q bs z) = quoted-read-back _ (text-printable (e .poss) q (h .poss))
+  text-reads last-name = quoted-read-back _ (text-printable (e .syms) (term-of e g .name) (h .syms))
+  text-reads last-position = quoted-read-back _ (text-printable (e .poss) (term-of e g .pos) (h .poss))
+
+  token-reads : (i : Option ℕ) (t : Token) → TokenOf e g i t → ReadsBack t
+  unfolding ReadsBack
+  token-reads i (string s) x = text-reads x
+  token-reads i (integer (some t) v) x = integer-reads t v (literal-small x)
+  token-reads i (integer none v) x = record { value = read-back-untyped v (literal-small x); never = other-never-odd v }
+  token-reads i (other s) x = tt
+
+tables-read : (o : Options) (e : Environment) → Printed e → (gs : List Generated) → every table-small gs ≡ true → Each ReadsBack (part-tokens e (all-parts o e gs))
+unfolding all-parts every Each part-tokens
+tables-read o e h [] k = tt
+tables-read o e h (g ∷ gs) k =
+    rw (tokens-append e (term-parts o e g) (all-parts o e gs))
+    (each-append ReadsBack (part-tokens e (term-parts o e g)) _ (parts-each e g ReadsBack (token-reads e h g (and-left (table-small g) _ k)) (term-fine o e g)) (tables-read o e h gs (and-right (table-small g) _ k)))
 
 pub terms-read : (p : Plan) → Readable p → Each ReadsBack (terms-tokens p)
 unfolding terms-tokens
-terms-read p r = parts-read (p .env) (r .texts) (parts p) (parts-fine small p (r .values))
+terms-read p r = tables-read (p .options) (p .env) (r .texts) (p .generated) (r .values)
+
+-- what stands before the terms has neither literals nor quoted texts
+other-reads : (e : Environment) (t : Token) → IsOther e t → ReadsBack t
+unfolding ReadsBack
+other-reads e (string s) h = absurd h
+other-reads e (integer t v) h = absurd h
+other-reads e (other s) h = tt
+
+pub items-read : (p : Plan) → Each ReadsBack (piece-tokens (p .env) 0 (items p))
+items-read p = each-map (IsOther (p .env)) ReadsBack (other-reads (p .env)) (piece-tokens (p .env) 0 (items p)) (items-other p)
+
+others-not-odd : (e : Environment) (ts : List Token) → Each (IsOther e) ts → odd-count ts ≡ 0
+unfolding odd-count Each
+others-not-odd e [] h = refl
+others-not-odd e (string s ∷ ts) h = absurd (h .0)
+others-not-odd e (integer t v ∷ ts) h = absurd (h .0)
+others-not-odd e (other s ∷ ts) h = others-not-odd e ts (h .1)
+
+pub items-not-odd : (p : Plan) → odd-count (piece-tokens (p .env) 0 (items p)) ≡ 0
+items-not-odd p = others-not-odd (p .env) (piece-tokens (p .env) 0 (items p)) (items-other p)

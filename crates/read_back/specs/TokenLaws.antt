@@ -34,6 +34,11 @@ each-in P (u ∷ ts) h t m = go (each-in P ts (h .1) t) (List·Memᴰ·cases-con
     go f (inl e) = rw e (h .0)
     go f (inr n) = f n
 
+pub each-map : (P Q : Token → Type 0) → ((t : Token) → P t → Q t) → (ts : List Token) → Each P ts → Each Q ts
+unfolding Each
+each-map P Q f [] h = tt
+each-map P Q f (t ∷ ts) h = (f t (h .0), each-map P Q f ts (h .1))
+
 -- TEXT
 
 joined-append : (ts us : List Token) → joined (ts ++ us) ≡ joined ts ++ joined us
@@ -134,7 +139,7 @@ pub terms-counted : (p : Plan) → odds p ≡ odd-count (terms-tokens p)
 unfolding odds terms-tokens
 terms-counted p = back (count-parts (p .env) (parts p))
 
--- no literal is odd in pieces that have none
-pub whole-counted : (p : Plan) → odd-pieces (items p) ≡ 0 → odds p ≡ odd-count (whole-tokens p)
+-- what stands before the terms has no odd literal, as it has none
+pub whole-counted : (p : Plan) → odd-count (piece-tokens (p .env) 0 (items p)) ≡ 0 → odds p ≡ odd-count (whole-tokens p)
 unfolding whole-tokens
-whole-counted p h = rw (count-append, count-pieces, h) (terms-counted p ∙ omega arith)
+whole-counted p h = rw (count-append, h) (terms-counted p ∙ omega arith)

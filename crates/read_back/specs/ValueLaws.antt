@@ -19,12 +19,20 @@ use Rattle.plan.specs.Layout.{_⊛_, each, or-else, only, digit, unused, bit, n
 use Rattle.plan.specs.Refusal.{every}
 use Rattle.splitting.specs.Cases.{and-left, and-right, and-both}
 use Rattle.splitting.specs.Accepted.{Holds, apply-holds, cond-holds, apply-any}
-use Rattle.read_back.specs.PieceLaws.{binding-asks, constraint-asks, either}
-use Rattle.read_back.specs.BlockLaws.{row-asks, generated-asks}
+use Rattle.origin.specs.Origin.{IntRow, binding-int, arm-int, row-int}
+use Rattle.origin.specs.PieceOrigins.{either}
 
 -- a value of 128 bits
 abbrev pub small : ℕ → Bool
 small v = ltb v (2 ^ 128)
+
+-- of an `int` binding or an `int` arm, and of all of a block table
+abbrev pub int-small : Option IntRow → Bool
+int-small none = true
+int-small (some r) = small (r .value)
+
+abbrev pub table-small : Generated → Bool
+table-small g = every (λ b. int-small (binding-int (b .binding))) (g .bindings) && every (λ r. int-small (row-int r)) (g .rows)
 
 -- DIGITS
 
@@ -111,10 +119,10 @@ module _ {A : Type 0} (P : A → Type 0) where
   only-keeps test (some x) h = cond-holds P (test x) (some x) h
 
 abbrev BindingSmall : Binding → Type 0
-BindingSmall k = binding-asks small k ≡ true
+BindingSmall k = int-small (binding-int k) ≡ true
 
 abbrev ArmSmall : Constraint → Type 0
-ArmSmall c = constraint-asks small c ≡ true
+ArmSmall c = int-small (arm-int c) ≡ true
 
 small-bindings : Kinds BindingSmall binding-kinds
 small-bindings =
@@ -139,7 +147,7 @@ binding-row-small line =
     (apply-holds BindingSmall (λ g. (ss : List ℕ) → BindingSmall (g ss .binding)) (some _) _ (λ k h ss. h) (kind-holds BindingSmall small-bindings _ _ _)))
 
 abbrev RowSmall : Row → Type 0
-RowSmall r = row-asks small r ≡ true
+RowSmall r = int-small (row-int r) ≡ true
 
 step-small : (l : Option ℕ) (c : Option ControlFlow) (bs : Option (List ℕ)) → Holds RowSmall (some (λ l c bs. step l c bs) ⊛ l ⊛ c ⊛ bs)
 unfolding Holds
@@ -184,23 +192,23 @@ any-lines [] = refl
 any-lines (l ∷ ls) = any-lines ls
 
 abbrev Small : Generated → Type 0
-Small g = generated-asks small g ≡ true
+Small g = table-small g ≡ true
 
 generated-small : (t b r : List (List ℕ)) → Holds Small (generated-term t b r)
 unfolding generated-term Holds
 generated-small t b r =
-    apply-holds (λ rs. every (row-asks small) rs ≡ true) Small _ _
-    (apply-holds (λ bs. every (λ x. binding-asks small (x .binding)) bs ≡ true) (λ f. (rs : List Row) → every (row-asks small) rs ≡ true → Small (f rs)) _ _
-    (apply-any (λ f. (bs : List BindingRow) → every (λ x. binding-asks small (x .binding)) bs ≡ true → (rs : List Row) → every (row-asks small) rs ≡ true → Small (f bs rs)) (some _) _ (λ n bs h rs g. and-both h g))
-    (table-holds (λ l. true) (λ x. binding-asks small (x .binding)) binding-row (λ l g. binding-row-small l) "kind a b list" b (any-lines b)))
-    (only-keeps (λ rs. every (row-asks small) rs ≡ true) _ _ (table-holds (λ l. true) (row-asks small) block-row (λ l g. block-row-small l) "level kind a b list" r (any-lines r)))
+    apply-holds (λ rs. every (λ r. int-small (row-int r)) rs ≡ true) Small _ _
+    (apply-holds (λ bs. every (λ x. int-small (binding-int (x .binding))) bs ≡ true) (λ f. (rs : List Row) → every (λ r. int-small (row-int r)) rs ≡ true → Small (f rs)) _ _
+    (apply-any (λ f. (bs : List BindingRow) → every (λ x. int-small (binding-int (x .binding))) bs ≡ true → (rs : List Row) → every (λ r. int-small (row-int r)) rs ≡ true → Small (f bs rs)) (some _) _ (λ n bs h rs g. and-both h g))
+    (table-holds (λ l. true) (λ x. int-small (binding-int (x .binding))) binding-row (λ l g. binding-row-small l) "kind a b list" b (any-lines b)))
+    (only-keeps (λ rs. every (λ r. int-small (row-int r)) rs ≡ true) _ _ (table-holds (λ l. true) (λ r. int-small (row-int r)) block-row (λ l g. block-row-small l) "level kind a b list" r (any-lines r)))
 
-pub all-small : (ts : List (List (List ℕ))) → Holds (λ gs. every (generated-asks small) gs ≡ true) (generated-terms ts)
+pub all-small : (ts : List (List (List ℕ))) → Holds (λ gs. every table-small gs ≡ true) (generated-terms ts)
 unfolding generated-terms every Holds
 all-small [] = refl
 all-small (t ∷ []) = tt
 all-small (t ∷ b ∷ []) = tt
 all-small (t ∷ b ∷ r ∷ ts) =
-    apply-holds (λ gs. every (generated-asks small) gs ≡ true) (λ gs. every (generated-asks small) gs ≡ true) _ _
-    (apply-holds Small (λ f. (gs : List Generated) → every (generated-asks small) gs ≡ true → every (generated-asks small) (f gs) ≡ true) (some _) _ (λ g h gs k. and-both h k) (generated-small t b r))
+    apply-holds (λ gs. every table-small gs ≡ true) (λ gs. every table-small gs ≡ true) _ _
+    (apply-holds Small (λ f. (gs : List Generated) → every table-small gs ≡ true → every table-small (f gs) ≡ true) (some _) _ (λ g h gs k. and-both h k) (generated-small t b r))
     (all-small ts)
