@@ -18,7 +18,7 @@ use Rattle.codegen.specs.Items.{items}
 use Rattle.codegen.specs.Terms.{term-parts, all-parts}
 use Rattle.splitting.specs.Cases.{and-left, and-right, and-both, false-true, none-some}
 use Rattle.splitting.specs.Demand3.{BlockTable}
-use Rattle.origin.specs.Origin.{Origin, of-binding, of-arm, of-name, of-return, of-declared, int-at, literal-type, flat, bare, quiet, unmarked, silent, silents, Spelled, done, quietly, literal, Words, unquoted, log-line, last-line, Written, in-words, at-overflow, at-closure, Parts, no-parts, one-part}
+use Rattle.origin.specs.Origin.{Origin, of-binding, of-arm, of-name, of-return, of-declared, int-at, literal-type, flat, bare, quiet, unmarked, silent, silents, Spelled, done, quietly, number, literal, Words, unquoted, log-line, last-line, Written, in-words, at-overflow, at-closure, Parts, no-parts, one-part}
 use Rattle.origin.specs.ItemOrigins.{bare-unmarked, quiet-silent, items-fine}
 use Rattle.read_back.specs.Tokens.{Token, string, integer, other, token, piece-tokens, what-tokens, part-tokens, _∈_}
 use Rattle.read_back.specs.TokenLaws.{Each, each-append, each-in, each-map}
@@ -68,7 +68,7 @@ module _ (e : Environment) where
   quiet-bytes d (type n) h = own-text (type-name n)
   quiet-bytes d (quoted-sym n) h = false-true h
   quiet-bytes d (quoted-pos n) h = false-true h
-  quiet-bytes d (num n) h = numbered [] n refl
+  quiet-bytes d (num n) h = false-true h
   quiet-bytes d (var n) h = numbered (codes "v") n refl
   quiet-bytes d (new n) h = numbered (codes "v") n refl
   quiet-bytes d (lit t v) h = false-true h
@@ -138,10 +138,11 @@ module _ (e : Environment) (g : Generated) where
   TokenOf i (integer t v) = LiteralOf e g t v
   TokenOf i (other s) = OtherBytes e s
 
-  spelled-each : (i : Option ℕ) (d : ℕ) {ps : List Piece} {os : List Origin} → Spelled e g ps os → Each (TokenOf i) (piece-tokens e d ps)
-  unfolding piece-tokens Each token
+  spelled-each : (i : Option ℕ) (d : ℕ) {a : Bool} {ps : List Piece} {os : List Origin} → Spelled e g a ps os → Each (TokenOf i) (piece-tokens e d ps)
+  unfolding piece-tokens Each token bytes
   spelled-each i d done = tt
   spelled-each i d (quietly p h hs) = (rw (quiet-token e d p h) (quiet-bytes e d p h), spelled-each i d hs)
+  spelled-each i d (number n hs) = (numbered [] n refl, spelled-each i d hs)
   spelled-each i d (literal x n v h t hs) = (record { origin = x; n = n; is = h; type-is = t }, spelled-each i d hs)
 
   words-each : {i : Option ℕ} (d : ℕ) {ps : List Piece} {os : List Origin} → Words e g i ps os → Each (TokenOf i) (piece-tokens e d ps)
@@ -218,10 +219,11 @@ module _ (e : Environment) (g : Generated) where
   int-token (of-return j) n v h = absurd (none-some h)
   int-token of-declared n v h = absurd (none-some h)
 
-  spelled-order : (d : ℕ) {ps : List Piece} {os : List Origin} → Spelled e g ps os → not-other (piece-tokens e d ps) ≡ texts os
+  spelled-order : (d : ℕ) {a : Bool} {ps : List Piece} {os : List Origin} → Spelled e g a ps os → not-other (piece-tokens e d ps) ≡ texts os
   unfolding piece-tokens not-other flat token
   spelled-order d done = refl
   spelled-order d (quietly p h hs) = rw (quiet-token e d p h) (spelled-order d hs)
+  spelled-order d (number n hs) = spelled-order d hs
   spelled-order d (literal x n v h t hs) = rw (t, int-token x n v h) (ap (λ ts. integer (literal-type (type-at e n)) v ∷ ts) (spelled-order d hs))
 
   words-order : {i : Option ℕ} (d : ℕ) {ps : List Piece} {os : List Origin} → Words e g i ps os → not-other (piece-tokens e d ps) ≡ texts os
