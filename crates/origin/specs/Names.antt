@@ -1,11 +1,11 @@
 -- Which bindings have names at each row of a block: `is_bound` of codegen.rs 87, without anything that is written.
 -- Assumes nothing: these are definitions. NamesLaws.antt shows that they are the marks of the walk that writes the text.
 use Prim.Native.Nat.{ℕ}
-use mathlib.Core.Bool.{Bool, true, false, cond}
+use mathlib.Core.Bool.{cond}
 use mathlib.Core.Option.{Option, some, none}
 use mathlib.Core.List.{List, [], _∷_}
 use lib.Dec.{leb, eqb}
-use Rattle.plan.specs.Row.{ControlFlow, Match, Equal, Loop, Return, Row, step, arm, level}
+use Rattle.plan.specs.Row.{Match, Equal, Loop, Return, Row, step, arm, level}
 use Rattle.codegen.specs.Writer.{Marks, insert}
 use Rattle.codegen.specs.Pattern.{bind-all}
 use Rattle.codegen.specs.Block.{Purpose, one-arm, arms-of, arm-body, body, arm-count}

@@ -1,7 +1,7 @@
 -- The names of Names.antt are those of the walk that writes the text (codegen/specs/Block), at every row: they do not depend on the
 -- marks of references, on what is logged, or on what splits.
-use Prim.Native.Nat.{ℕ, suc}
-use mathlib.Core.Path.{_≡_, refl, sym, ap, _∙_}
+use Prim.Native.Nat.{ℕ}
+use mathlib.Core.Path.{_≡_, refl, ap, _∙_}
 use mathlib.Core.Bool.{Bool, true, false, cond}
 use mathlib.Core.Option.{Option, some, none}
 use mathlib.Core.List.{List, [], _∷_}
@@ -10,7 +10,7 @@ use Rattle.plan.specs.Constraint.{Constraint}
 use Rattle.plan.specs.Row.{ControlFlow, Match, Equal, Loop, Return, Row, step, arm, level}
 use Rattle.codegen.specs.Writer.{Marks, insert}
 use Rattle.codegen.specs.Pattern.{bind-all}
-use Rattle.codegen.specs.Block.{Body, Purpose, one-arm, arms-of, arm-body, body, Frame, State, Own, arm-count, lets, purpose-of, left, restored, pushed, numbered, after, own, emit-check, matching, opening, nothing-written, returning, emit-arm, here, splits-here, next}
+use Rattle.codegen.specs.Block.{Body, Purpose, one-arm, arms-of, arm-body, body, Frame, State, Own, arm-count, lets, purpose-of, left, restored, pushed, after, own, emit-check, matching, opening, nothing-written, returning, emit-arm, here, next}
 use Rattle.origin.specs.Names.{Scope, Names, listed, after-list, match-inside, arm-inside, inside, match-opens, arm-opens, opens, restore, keep, around, opened, at-row, past}
 
 unfoldable pub scope-of : Frame → Scope
@@ -27,7 +27,7 @@ names-of s = record { bound = s .bound; scopes = scopes-of (s .frames) }
 restore-same : (l : ℕ) (m : Marks) (fs : List Frame) → restore l m (scopes-of fs) ≡ restored l m fs
 unfolding restore restored scopes-of scope-of
 restore-same l m [] = refl
-restore-same l m (f ∷ fs) = rw (restore-same l (f .bound) fs)
+restore-same l m (f ∷ fs) = ap (λ x. cond (leb l (f .level)) x m) (restore-same l (f .bound) fs)
 
 either-scopes : (b : Bool) (x y : List Frame) → cond b (scopes-of x) (scopes-of y) ≡ scopes-of (cond b x y)
 either-scopes true x y = refl

@@ -9,7 +9,7 @@ use lib.ListN.{getD}
 use Rattle.text.specs.Codes.{codes}
 use Rattle.text.specs.Digits.{decimal}
 use Rattle.literal.specs.declared.builtin_type.IntType.{IntType}
-use Rattle.plan.specs.Plan.{Options, Term, Environment, Generated, Plan}
+use Rattle.plan.specs.Plan.{Environment, Generated, Plan}
 use Rattle.plan.specs.Row.{Match, Equal, Loop, Return, Row, step, arm}
 use Rattle.plan.specs.Lookup.{type-at}
 use Rattle.codegen.specs.Piece.{sym-text, pos-text, type-text}

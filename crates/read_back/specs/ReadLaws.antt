@@ -11,7 +11,7 @@ use Rattle.literal.specs.Literal.{literal, odd}
 use Rattle.literal.specs.Quote.{quoted}
 use Rattle.literal.specs.Reference.{integer-value, string-value}
 use Rattle.literal.specs.ReadBack.{extended, read-back, read-back-untyped, read-back-not-odd, read-back-outside, u128-never-odd, i128-never-odd, other-never-odd, quoted-read-back}
-use Rattle.plan.specs.Plan.{Options, Term, Environment, Generated, Plan}
+use Rattle.plan.specs.Plan.{Options, Environment, Generated, Plan}
 use Rattle.plan.specs.Binding.{BindingRow}
 use Rattle.plan.specs.Constraint as constraint
 use Rattle.plan.specs.Row.{Row, arm}
@@ -26,7 +26,7 @@ use Rattle.read_back.specs.Tokens.{Token, string, integer, other, piece-
 use Rattle.read_back.specs.TokenLaws.{Each, each-append, each-map}
 use Rattle.read_back.specs.Origins.{LiteralOf, QuotedText, logged-name, logged-position, last-name, last-position}
 use Rattle.read_back.specs.TokenOrigins.{IsOther, items-other, TokenOf, tokens-append, parts-each}
-use Rattle.read_back.specs.ValueLaws.{small, int-small, table-small}
+use Rattle.read_back.specs.ValueLaws.{int-small, table-small}
 use Rattle.read_back.specs.Accepted.{Printed, Readable, text-printable}
 
 -- a literal that is its value is not odd

@@ -3,14 +3,13 @@
 use Prim.Native.Nat.{ℕ}
 use mathlib.Core.Path.{_≡_, ap}
 use mathlib.Core.List.{List, [], _++_, List·Memᴰ·not-nil}
-use Rattle.plan.specs.Plan.{Generated, Plan}
+use Rattle.plan.specs.Plan.{Plan}
 use Rattle.plan.specs.Refusal.{accepted, outcome}
 use Rattle.codegen.specs.Terms.{terms-text, odds}
 use Rattle.codegen.specs.Items.{items}
 use Rattle.codegen.specs.Answer.{whole-text}
-use Rattle.splitting.specs.Demand3.{BlockTable}
 use Rattle.origin.specs.BlockOrigins.{term-fine}
-use Rattle.read_back.specs.Tokens.{Token, piece-tokens, terms-tokens, whole-tokens, ReadsBack, Reads}
+use Rattle.read_back.specs.Tokens.{piece-tokens, terms-tokens, whole-tokens, ReadsBack, Reads}
 use Rattle.read_back.specs.TokenLaws.{each-append, each-in, terms-joined, whole-joined, terms-counted, whole-counted}
 use Rattle.read_back.specs.Origins.{Origins}
 use Rattle.read_back.specs.TokenOrigins.{IsOther, items-other, parts-origin, parts-order, tokens-by-block-tables}

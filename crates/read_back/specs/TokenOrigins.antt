@@ -1,8 +1,8 @@
 -- From pieces to tokens: what origin/specs shows of the pieces of a plan's text, said of its tokens.
 use Prim.Native.Nat.{ℕ, zero, suc, _+_, _*_}
 use mathlib.Core.Path.{_≡_, refl, sym as back, ap, _∙_}
-use mathlib.Core.Bool.{Bool, true, false, not, _&&_}
-use mathlib.Core.Option.{Option, some, none}
+use mathlib.Core.Bool.{Bool, true, not}
+use mathlib.Core.Option.{Option, some}
 use mathlib.Core.List.{List, [], _∷_, _++_, append-assoc, List·Memᴰ, List·Memᴰ·not-nil, List·Memᴰ·cases-cons}
 use mathlib.Core.Logic.{_⊎_, inl, inr}
 use lib.Dec.{eqb}
@@ -12,17 +12,17 @@ use Rattle.text.specs.Sink.{spaces}
 use Rattle.plan.specs.Plan.{Options, Environment, Generated, Plan}
 use Rattle.plan.specs.Lookup.{type-at}
 use Rattle.plan.specs.Layout.{digit}
-use Rattle.codegen.specs.Piece.{Piece, fix, file, sym, pos, type, quoted-sym, quoted-pos, num, var, new, lit, brace, unbrace, break, indent, bytes}
-use Rattle.codegen.specs.Block.{words, overflow, What, line, Edge, opens, gives-false, ends, calls, edge, Part, iter-overflow-action, line-bytes, edge-bytes}
+use Rattle.codegen.specs.Piece.{Piece, fix, file, sym, pos, type, quoted-sym, quoted-pos, num, var, new, lit, brace, unbrace, break, indent, sym-text, bytes}
+use Rattle.codegen.specs.Block.{overflow, What, Edge, opens, gives-false, ends, calls, Part, iter-overflow-action, line-bytes, edge-bytes}
 use Rattle.codegen.specs.Items.{items}
 use Rattle.codegen.specs.Terms.{term-parts, all-parts}
 use Rattle.splitting.specs.Cases.{and-left, and-right, and-both, false-true, none-some}
 use Rattle.splitting.specs.Demand3.{BlockTable}
-use Rattle.origin.specs.Origin.{Origin, of-binding, of-arm, of-name, of-return, of-declared, int-at, literal-type, flat, bare, quiet, unmarked, silent, silents, Spelled, done, quietly, number, literal, Words, unquoted, log-line, last-line, Written, in-words, at-overflow, at-closure, Parts, no-parts, one-part}
+use Rattle.origin.specs.Origin.{Origin, of-binding, of-arm, of-name, of-return, of-declared, term-of, int-at, literal-type, flat, bare, quiet, silent, silents, Spelled, done, quietly, number, literal, Words, unquoted, log-line, last-line, Written, in-words, at-overflow, at-closure, Parts, no-parts, one-part}
 use Rattle.origin.specs.ItemOrigins.{bare-unmarked, quiet-silent, items-fine}
 use Rattle.read_back.specs.Tokens.{Token, string, integer, other, token, piece-tokens, what-tokens, part-tokens, _∈_}
 use Rattle.read_back.specs.TokenLaws.{Each, each-append, each-in, each-map}
-use Rattle.read_back.specs.Origins.{origin-tokens, int-tokens, not-other, LiteralOf, QuotedText, logged-name, logged-position, last-name, last-position, file-text, name-text, position-text, type-name, OtherBytes, bare-bytes, numbered, log-head, last-head, own-text, HeadBytes, unmarked-bytes, head-number, head-text, TokensOrigin, tables-tokens, table-tokens}
+use Rattle.read_back.specs.Origins.{origin-tokens, int-tokens, return-tokens, not-other, LiteralOf, QuotedText, logged-name, logged-position, last-name, last-position, file-text, name-text, position-text, type-name, OtherBytes, bare-bytes, numbered, log-head, last-head, own-text, HeadBytes, unmarked-bytes, head-number, head-text, TokensOrigin, tables-tokens, table-tokens}
 
 -- BYTES
 
@@ -229,7 +229,7 @@ module _ (e : Environment) (g : Generated) where
   words-order : {i : Option ℕ} (d : ℕ) {ps : List Piece} {os : List Origin} → Words e g i ps os → not-other (piece-tokens e d ps) ≡ texts os
   unfolding piece-tokens not-other flat token origin-tokens
   words-order d (unquoted h) = spelled-order d h
-  words-order d (log-line i l r q bs h) = rw h refl
+  words-order d (log-line i l r q bs h) = ap (λ x. string (sym-text e (term-of e g .name)) ∷ (return-tokens e x ++ [])) (back h)
   words-order d last-line = refl
 
   written-order : {i : Option ℕ} (d k : ℕ) {w : What} {os : List Origin} → Written e g i w os → not-other (what-tokens e d k w) ≡ texts os
