@@ -21,7 +21,7 @@ use Rattle.codegen.specs.Items.{items}
 use Rattle.codegen.specs.Terms.{term-parts, all-parts}
 use Rattle.splitting.specs.Cases.{and-left, and-right, false-true}
 use Rattle.origin.specs.Origin.{Origin, of-binding, of-arm, of-name, of-return, of-declared, term-of, binding-int, row-int, int-at}
-use Rattle.origin.specs.BlockOrigins.{term-fine}
+use Rattle.origin.specs.BlockOrigins.{term-origins}
 use Rattle.read_back.specs.Tokens.{Token, string, integer, other, piece-tokens, part-tokens, terms-tokens, odd-count, IntegerReadsBack, ReadsBack}
 use Rattle.read_back.specs.TokenLaws.{Each, each-append, each-map}
 use Rattle.read_back.specs.Origins.{LiteralOf, QuotedText, logged-name, logged-position, last-name, last-position}
@@ -90,7 +90,7 @@ unfolding all-parts every Each part-tokens
 tables-read o e h [] k = tt
 tables-read o e h (g ∷ gs) k =
     rw (tokens-append e (term-parts o e g) (all-parts o e gs))
-    (each-append ReadsBack (part-tokens e (term-parts o e g)) _ (parts-each e g ReadsBack (token-reads e h g (and-left (table-small g) _ k)) (term-fine o e g)) (tables-read o e h gs (and-right (table-small g) _ k)))
+    (each-append ReadsBack (part-tokens e (term-parts o e g)) _ (parts-each e g ReadsBack (token-reads e h g (and-left (table-small g) _ k)) (term-origins o e g)) (tables-read o e h gs (and-right (table-small g) _ k)))
 
 pub terms-read : (p : Plan) → Readable p → Each ReadsBack (terms-tokens p)
 unfolding terms-tokens

@@ -18,7 +18,7 @@ use Rattle.codegen.specs.Items.{items}
 use Rattle.codegen.specs.Terms.{term-parts, all-parts}
 use Rattle.splitting.specs.Cases.{and-left, and-right, and-both, false-true, none-some}
 use Rattle.splitting.specs.Demand3.{BlockTable}
-use Rattle.origin.specs.Origin.{Origin, of-binding, of-arm, of-name, of-return, of-declared, term-of, int-at, literal-type, flat, bare, quiet, silent, silents, Spelled, done, quietly, number, literal, Words, unquoted, log-line, last-line, Written, in-words, at-overflow, at-closure, Parts, no-parts, one-part}
+use Rattle.origin.specs.Origin.{Origin, of-binding, of-arm, of-name, of-return, of-declared, term-of, int-at, literal-type, flat, bare, quiet, silent, silents, Spelled, done, quietly, number, field-number, literal, Words, unquoted, log-line, last-line, Written, in-words, at-overflow, at-closure, Parts, no-parts, one-part}
 use Rattle.origin.specs.ItemOrigins.{bare-unmarked, quiet-silent, items-fine}
 use Rattle.read_back.specs.Tokens.{Token, string, integer, other, token, piece-tokens, what-tokens, part-tokens, _∈_}
 use Rattle.read_back.specs.TokenLaws.{Each, each-append, each-in, each-map}
@@ -143,6 +143,7 @@ module _ (e : Environment) (g : Generated) where
   spelled-each i d done = tt
   spelled-each i d (quietly p h hs) = (rw (quiet-token e d p h) (quiet-bytes e d p h), spelled-each i d hs)
   spelled-each i d (number n hs) = (numbered [] n refl, spelled-each i d hs)
+  spelled-each i d (field-number k n hs) = (bare-bytes _ (bare-indent (d + k)), (numbered [] n refl, (bare-bytes _ refl, spelled-each i d hs)))
   spelled-each i d (literal x n v h t hs) = (record { origin = x; n = n; is = h; type-is = t }, spelled-each i d hs)
 
   words-each : {i : Option ℕ} (d : ℕ) {ps : List Piece} {os : List Origin} → Words e g i ps os → Each (TokenOf i) (piece-tokens e d ps)
@@ -224,6 +225,7 @@ module _ (e : Environment) (g : Generated) where
   spelled-order d done = refl
   spelled-order d (quietly p h hs) = rw (quiet-token e d p h) (spelled-order d hs)
   spelled-order d (number n hs) = spelled-order d hs
+  spelled-order d (field-number k n hs) = spelled-order d hs
   spelled-order d (literal x n v h t hs) = rw (t, int-token x n v h) (ap (λ ts. integer (literal-type (type-at e n)) v ∷ ts) (spelled-order d hs))
 
   words-order : {i : Option ℕ} (d : ℕ) {ps : List Piece} {os : List Origin} → Words e g i ps os → not-other (piece-tokens e d ps) ≡ texts os
