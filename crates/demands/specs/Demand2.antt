@@ -103,8 +103,9 @@ pub demand-2-read-back-terms : (plan before : List ℕ) {l k : ℕ} {after : Lis
 unfolding terms-answer
 demand-2-read-back-terms plan before q = let w = wrote terms-text plan before q in read-back terms-tokens w (terms-text-reads-back plan (w .p) (w .is))
 
--- "Literals are what `int` bindings and `int` arms write, and nothing in a plan's own texts or the fixed lines" (document 01): where the
--- literals and quoted texts of the text come from. `head`: the tokens that stand before the terms.
+-- "Literals are what `int` bindings and `int` arms write, and nothing in a plan's own texts or the fixed lines" (document 01): in each
+-- block table the literals and quoted texts are, in order, those of the rows that origin/specs/Origin gives, and none hides among other
+-- bytes: `Origins` (read_back/specs/Origins). `head`: the tokens that stand before the terms.
 
 pub record FromRows (plan : List ℕ) (head tokens : Plan → List Token) (l : ℕ) (after : List ℕ) : Type 0 where
   pub p : Plan
