@@ -46,7 +46,7 @@ unfolding joined
 joined-append [] us = refl
 joined-append (t ∷ ts) us = rw (joined-append ts us, append-assoc)
 
-token-is : (e : Environment) (d : ℕ) (p : Piece) → token-bytes (token e d p) ≡ bytes e d p
+pub token-is : (e : Environment) (d : ℕ) (p : Piece) → token-bytes (token e d p) ≡ bytes e d p
 unfolding token token-bytes bytes
 token-is e d (fix t h) = refl
 token-is e d (file n) = refl
@@ -63,7 +63,7 @@ token-is e d brace = refl
 token-is e d unbrace = refl
 token-is e d (break k) = refl
 
-joined-pieces : (e : Environment) (d : ℕ) (ps : List Piece) → joined (piece-tokens e d ps) ≡ render e d ps
+pub joined-pieces : (e : Environment) (d : ℕ) (ps : List Piece) → joined (piece-tokens e d ps) ≡ render e d ps
 unfolding joined piece-tokens render
 joined-pieces e d [] = refl
 joined-pieces e d (p ∷ ps) = rw (token-is e d p, joined-pieces e d ps)
