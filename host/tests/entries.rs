@@ -1,6 +1,6 @@
-//! The entries on the worked plan of document 01: texts, lengths, refusals, and untouched bytes.
+//! The entries on the worked plan of document 01: texts, lengths, counts, refusals, and untouched bytes.
 
-use rizhavel::{emit, emit_terms, emit_terms_to_vec, emit_to_vec};
+use rizhavel::{Text, emit, emit_terms, emit_terms_to_vec, emit_to_vec};
 use std::fs;
 use std::path::PathBuf;
 
@@ -12,8 +12,20 @@ fn example(name: &str) -> Vec<u8> {
 #[test]
 fn worked_plan() {
     let plan = example("worked.plan");
-    assert_eq!(emit_to_vec(&plan, 65536).unwrap(), example("worked.whole"));
-    assert_eq!(emit_terms_to_vec(&plan, 65536).unwrap(), example("worked.terms"));
+    assert_eq!(emit_to_vec(&plan, 65536).unwrap(), Text { bytes: example("worked.whole"), odd_literals: 0 });
+    assert_eq!(emit_terms_to_vec(&plan, 65536).unwrap(), Text { bytes: example("worked.terms"), odd_literals: 0 });
+}
+
+/// u8 256, as a binding and as an arm.
+#[test]
+fn odd_literals() {
+    let plan = String::from_utf8(example("worked.plan")).unwrap().replace("00007 -", "00100 -");
+    let text = emit_to_vec(plan.as_bytes(), 65536).unwrap();
+    assert_eq!(text.odd_literals, 2);
+    assert_eq!(String::from_utf8(text.bytes).unwrap().matches("0x0_u8").count(), 2);
+    assert_eq!(emit_terms_to_vec(plan.as_bytes(), 65536).unwrap().odd_literals, 2);
+    let mut out = [0; 65536];
+    assert_eq!(emit(plan.as_bytes(), &mut out).unwrap().odd_literals, 2);
 }
 
 #[test]
@@ -49,7 +61,7 @@ fn refusals() {
 fn grows_to_the_limit() {
     let plan = example("worked.plan");
     let length = example("worked.whole").len();
-    assert_eq!(emit_to_vec(&plan, length).unwrap().len(), length);
+    assert_eq!(emit_to_vec(&plan, length).unwrap().bytes.len(), length);
     assert_eq!(emit_to_vec(&plan, length - 1).unwrap_err().number(), 11);
 }
 
@@ -59,7 +71,7 @@ fn many_threads() {
     let text = example("worked.whole");
     std::thread::scope(|scope| {
         for _ in 0..4 {
-            scope.spawn(|| assert_eq!(emit_to_vec(&plan, 65536).unwrap(), text));
+            scope.spawn(|| assert_eq!(emit_to_vec(&plan, 65536).unwrap().bytes, text));
         }
     });
 }
