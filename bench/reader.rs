@@ -1,6 +1,6 @@
 //! The proved reader as a C function beside the oracle's Rust reader. `check` takes plans in frames on standard input
 //! (oracle/README.md) and writes for each a frame as `oracle/run many check` does; `time FILE..` prints the time of both on the
-//! same plans, in the same run.
+//! same plans, in the same run; `count FILE..` calls what callgrind counts (count.py).
 
 use std::collections::BTreeMap;
 use std::hint::black_box;
@@ -11,7 +11,10 @@ use std::time::Instant;
 
 use oracle::plan::Plan;
 
+mod counted;
 mod frames;
+
+use counted::counted;
 
 // A `&[u8]` passes as a pointer and a length.
 unsafe extern "C" {
@@ -52,6 +55,40 @@ fn time(plan: &[u8]) -> (f64, f64) {
     least
 }
 
+/// What callgrind counts of our side, and of the oracle's.
+#[unsafe(no_mangle)]
+#[inline(never)]
+fn side_ours(plan: &[u8]) -> u32 {
+    black_box(ours(black_box(plan)))
+}
+
+#[unsafe(no_mangle)]
+#[inline(never)]
+fn side_theirs(plan: &[u8]) -> u32 {
+    black_box(theirs(black_box(plan)))
+}
+
+fn name(path: &str) -> &str {
+    Path::new(path).file_stem().and_then(|name| name.to_str()).expect("a name")
+}
+
+/// Calls each side once on each plan, ours first, and prints the plan's name, its length and the number.
+fn count(paths: &[String]) -> bool {
+    println!("{:<16} {:>8} {:>8}", "plan", "bytes", "number");
+    for path in paths {
+        let plan = std::fs::read(path).expect("a plan");
+        let number = side_ours(&plan);
+        counted();
+        let same = side_theirs(&plan) == number;
+        counted();
+        println!("{:<16} {:8} {number:8}", name(path), plan.len());
+        if !same {
+            return false;
+        }
+    }
+    true
+}
+
 /// Names of the form `SHAPE.SIZE` belong to plans of one shape that differ in their length only.
 fn sized(name: &str) -> Option<(&str, usize)> {
     let (shape, size) = name.rsplit_once('.')?;
@@ -65,7 +102,7 @@ fn time_all(paths: &[String]) -> bool {
     let mut growth: BTreeMap<String, BTreeMap<usize, f64>> = BTreeMap::new();
     println!("{:<16} {:>8} {:>8} {:>12} {:>12}   ratio", "plan", "bytes", "number", "ours", "oracle");
     for path in paths {
-        let name = Path::new(path).file_stem().and_then(|n| n.to_str()).expect("a name");
+        let name = name(path);
         let plan = std::fs::read(path).expect("a plan");
         let (a, b) = time(&plan);
         if plan.len() == 65_536 {
@@ -96,8 +133,9 @@ fn main() -> ExitCode {
             true
         }
         Some("time") => time_all(&arguments[1..]),
+        Some("count") => count(&arguments[1..]),
         _ => {
-            eprintln!("usage: reader check < frames, reader time FILE..");
+            eprintln!("usage: reader check < frames, reader time|count FILE..");
             return ExitCode::from(2);
         }
     };

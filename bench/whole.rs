@@ -1,7 +1,7 @@
 //! The proved emitter's C entries beside the crate, on plans in frames on standard input.
 //! `compare` holds number, length, count and every byte against the crate's, in rooms around the text's length; `time` and
-//! `time-items` print the time of both on the same plans, in the same run; `explode` measures texts beyond any memory; `random`
-//! judges short inputs.
+//! `time-items` print the time of both on the same plans, in the same run; `count` and `explode` call what callgrind counts
+//! (count.py); `random` judges short inputs.
 
 use std::hint::black_box;
 use std::process::ExitCode;
@@ -13,7 +13,10 @@ use oracle::codegen::{Codegen, codegen};
 use oracle::environment::Environment;
 use oracle::plan::Plan;
 
+mod counted;
 mod frames;
+
+use counted::counted;
 
 /// Which text is asked for.
 #[derive(Clone, Copy, Debug, PartialEq, Eq)]
@@ -53,8 +56,11 @@ const BEYOND: usize = 64;
 /// How often both are timed in turn.
 const ROUNDS: usize = 8;
 
-/// The room that both are asked for; what is longer has no text to compare.
+/// The room that the programs have.
 const ROOM: usize = 65536;
+
+/// The rooms that a text beyond any memory is measured in.
+const ROOMS: [usize; 9] = [0, 8 << 10, 16 << 10, 32 << 10, 64 << 10, 128 << 10, 256 << 10, 512 << 10, 1 << 20];
 
 /// The crate's header, trait and types.
 fn items(env: &Environment) -> String {
@@ -66,15 +72,16 @@ fn items(env: &Environment) -> String {
     text
 }
 
-fn theirs(form: Form, plan: &[u8]) -> Answer {
+/// The crate's answer in a room of `longest`.
+fn theirs(form: Form, plan: &[u8], longest: usize) -> Answer {
     match form {
-        Form::Whole => answer(plan, answer::Form::Whole, ROOM),
-        Form::Terms => answer(plan, answer::Form::Terms, ROOM),
+        Form::Whole => answer(plan, answer::Form::Whole, longest),
+        Form::Terms => answer(plan, answer::Form::Terms, longest),
         Form::Items => {
             let (number, text) = match Plan::read(plan) {
                 Err(number) => (number, String::new()),
                 Ok(plan) => match items(&Environment::of(&plan)) {
-                    text if text.len() > ROOM => (11, String::new()),
+                    text if text.len() > longest => (11, String::new()),
                     text => (0, text),
                 },
             };
@@ -107,52 +114,67 @@ fn fault(form: Form, plan: &[u8], room: usize, expected: &Answer) -> Option<Stri
     None
 }
 
-fn rooms(expected: &Answer) -> Vec<usize> {
+/// The least room and that of the programs; around a text's length; and the room of the crate's answer, for what is longer than `ROOM`.
+fn rooms(expected: &Answer, longest: usize) -> Vec<usize> {
     let n = expected.length;
-    match expected.number {
-        0 if n > 0 => vec![0, n - 1, n, n + 1, ROOM],
-        _ => vec![0, ROOM],
+    let mut rooms = vec![0, ROOM];
+    if n > 0 {
+        rooms.extend([n - 1, n, n + 1]);
     }
+    if n > ROOM || expected.number == 11 {
+        rooms.push(longest);
+    }
+    rooms.sort();
+    rooms.dedup();
+    rooms
 }
 
-/// Takes plans with the crate's answers, and gives how many answers of ours were compared and how many differ.
-fn compare_each(work: Receiver<(Vec<u8>, Form, Answer)>) -> (usize, usize) {
-    let (mut compared, mut different) = (0, 0);
+/// How many answers of ours were compared, how many texts longer than `ROOM` were among them, and how many answers differ.
+#[derive(Default)]
+struct Compared {
+    answers: usize,
+    long: usize,
+    different: usize,
+}
+
+/// Takes plans with the crate's answers in a room of `longest`.
+fn compare_each(work: Receiver<(Vec<u8>, Form, Answer)>, longest: usize) -> Compared {
+    let mut compared = Compared::default();
     for (plan, form, expected) in work {
-        for room in rooms(&expected) {
-            if expected.number == 11 && room != ROOM {
-                continue;
-            }
-            compared += 1;
+        compared.long += usize::from(expected.length > ROOM);
+        for room in rooms(&expected, longest) {
+            compared.answers += 1;
             if let Some(fault) = fault(form, &plan, room, &expected) {
-                different += 1;
-                if different <= 5 {
+                compared.different += 1;
+                if compared.different <= 5 {
                     println!("{fault}; the plan:\n{}", String::from_utf8_lossy(&plan));
                 }
             }
         }
     }
-    (compared, different)
+    compared
 }
 
-/// Our side runs on a thread with the stack that Rust gives its threads.
-fn compare(plans: Vec<Vec<u8>>) -> bool {
+/// Our side runs on a thread with the stack that Rust gives its threads. What is longer than `longest` has no text to compare: ours
+/// is refused there too. So many texts longer than `ROOM` must be among those compared.
+fn compare(plans: Vec<Vec<u8>>, longest: usize, least: usize) -> bool {
     let count = plans.len();
     let (sender, receiver) = sync_channel(64);
-    let thread = std::thread::Builder::new().stack_size(2 << 20).spawn(move || compare_each(receiver)).expect("a thread");
+    let ours = move || compare_each(receiver, longest);
+    let thread = std::thread::Builder::new().stack_size(2 << 20).spawn(ours).expect("a thread");
     with_large_stack(move || {
         for plan in plans {
             for form in FORMS {
-                let expected = theirs(form, &plan);
+                let expected = theirs(form, &plan, longest);
                 if sender.send((plan.clone(), form, expected)).is_err() {
                     return;
                 }
             }
         }
     });
-    let (compared, different) = thread.join().expect("our side");
-    println!("{count} plans, {compared} answers compared, {different} differ");
-    different == 0
+    let Compared { answers, long, different } = thread.join().expect("our side");
+    println!("{count} plans, {answers} answers compared, {long} texts longer than {ROOM} bytes, {different} differ");
+    different == 0 && long >= least
 }
 
 /// The least time of many runs, in microseconds: as many as take a twentieth of a second, three at least. Each run returns its own time.
@@ -226,21 +248,54 @@ fn run(plans: Vec<Vec<u8>>, kib: usize) -> bool {
     std::thread::Builder::new().stack_size(kib << 10).spawn(each).expect("a thread").join().expect("our side")
 }
 
-/// A plan whose text is beyond any memory is measured up to the room: the time at rooms that double, which grows as they do.
+/// What callgrind counts of our side.
+#[unsafe(no_mangle)]
+#[inline(never)]
+fn side_ours(form: Form, plan: &[u8], out: &mut [u8]) -> (u32, usize, usize) {
+    black_box(ours(form, black_box(plan), out))
+}
+
+/// What it counts of the crate: `codegen` from its environments.
+#[unsafe(no_mangle)]
+#[inline(never)]
+fn side_theirs(env: &Environment) -> String {
+    black_box(codegen(env.files.clone(), &env.typeenv, &env.termenv, &env.terms, &env.options))
+}
+
+/// Calls each side once on each plan, ours first, and prints the plan's name and the lengths of plan and text.
+fn count(names: impl Iterator<Item = String>, plans: &[Vec<u8>]) -> bool {
+    let mut out = vec![0; 1 << 24];
+    println!("{:<12} {:>10} {:>10}", "plan", "plan bytes", "text bytes");
+    for (name, plan) in names.zip(plans) {
+        let (number, length, _) = side_ours(Form::Whole, plan, &mut out);
+        counted();
+        if number != 0 {
+            println!("{name}: refused {number}");
+            return false;
+        }
+        with_large_stack(|| side_theirs(&Environment::of(&Plan::read(plan).expect("an accepted plan"))));
+        counted();
+        println!("{name:<12} {:10} {length:10}", plan.len());
+    }
+    true
+}
+
+/// Calls our side on plans whose text is beyond any memory, in rooms that double, and prints the plan's length and the room.
 fn explode(plans: &[Vec<u8>]) -> bool {
-    let mut good = true;
-    println!("{:>10} {:>10} {:>12} {:>14}", "plan bytes", "room", "time", "ns for a byte");
+    println!("{:>10} {:>10}", "plan bytes", "room");
     for plan in plans {
-        for shift in 12..21 {
-            let room = 1 << shift;
+        for room in ROOMS {
             let mut out = vec![UNTOUCHED; room];
-            good &= ours(Form::Terms, plan, &mut out).0 == 11 && out.iter().all(|&byte| byte == UNTOUCHED);
-            let time = time_ours(Form::Terms, plan, &mut out);
-            good &= room > ROOM || time < 1000.0;
-            println!("{:10} {room:10} {time:9.1} us {:14.2}", plan.len(), time * 1000.0 / room as f64);
+            let (number, length, odd) = side_ours(Form::Terms, plan, &mut out);
+            counted();
+            if (number, length, odd) != (11, 0, 0) || out.iter().any(|&byte| byte != UNTOUCHED) {
+                println!("a plan of {} bytes in {room}: number {number}, or a byte is changed", plan.len());
+                return false;
+            }
+            println!("{:10} {room:10}", plan.len());
         }
     }
-    good
+    true
 }
 
 /// Numbers that look random, from a seed (splitmix64).
@@ -300,14 +355,15 @@ fn argument(n: usize) -> usize {
 
 fn main() -> ExitCode {
     let good = match std::env::args().nth(1).as_deref() {
-        Some("compare") => compare(frames::frames()),
+        Some("compare") => compare(frames::frames(), argument(2), argument(3)),
         Some("time") => time_all(Form::Whole, &frames::frames()),
         Some("time-items") => time_all(Form::Items, &frames::frames()),
         Some("run") => run(frames::frames(), argument(2)),
+        Some("count") => count(std::env::args().skip(2), &frames::frames()),
         Some("explode") => explode(&frames::frames()),
         Some("random") => random(&frames::frames()[0], argument(2) as u64, argument(3)),
         _ => {
-            eprintln!("usage: whole compare|time|time-items|run KIB|explode|random SEED COUNT < FRAMES");
+            eprintln!("usage: whole compare LONGEST LEAST|time|time-items|run KIB|count NAME..|explode|random SEED COUNT < FRAMES");
             return ExitCode::from(2);
         }
     };

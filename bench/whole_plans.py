@@ -10,6 +10,7 @@ deep:N      N matches nested in one another in an iterator term, the arms' bodie
 bottom:N    31 matches nested in one another, with N returns at level 62, the arms' bodies split
 items       256 types, 1,024 variants, 512 terms, none generated
 explode:N   N bindings, each a struct of two fields that are both the binding before it: a text of more than 2 ** N bytes
+explodes:N  an iterator term of N returns, each of a binding as the last of explode:30
 nested:KIND 1,024 bindings nested in one another, all of a kind that is written through its source
 long:KIND   the same with a text that makes the plan 65,536 bytes long
 deepest     1,024 nested bindings, returned below 31 nested matches, in a plan of 65,536 bytes
@@ -85,9 +86,14 @@ def items():
     return plan("0 0 0 -", SYMS, types, variants, terms, [])
 
 
-def explode(n):
-    bindings = ["arg 0 - -", "struct 13 - 0,0"] + [f"struct 13 - {k},{k}" for k in range(1, n)]
-    return plan("0 0 0 -", SYMS, ["named 4 0 0 0 5:13,6:13"], [], ["1 0 13 0 0 in - 0 1"], [(0, bindings, [f"0 return {n} 1 -"])])
+def explode(n, returns=1, multi=0):
+    bindings = ["arg 0 - -"] + [f"struct 13 - {k},{k}" for k in range(n)]
+    rows = [f"0 return {n} 1 -"] * returns
+    return plan("0 0 0 -", SYMS, ["named 4 0 0 0 5:13,6:13"], [], [f"1 0 13 {multi} 0 in - 0 1"], [(0, bindings, rows)])
+
+
+def explodes(n):
+    return explode(30, n, 1)
 
 
 def nested(kind, more=()):
@@ -124,7 +130,7 @@ def example():
 
 
 def main():
-    shapes = {f.__name__: f for f in (worked, example, typical, literals, returns, deep, bottom, items, explode, nested, long, deepest)}
+    shapes = {f.__name__: f for f in (worked, example, typical, literals, returns, deep, bottom, items, explode, explodes, nested, long, deepest)}
     if len(sys.argv) < 2:
         sys.exit(__doc__)
     for shape in sys.argv[1:]:
