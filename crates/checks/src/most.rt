@@ -1,4 +1,5 @@
 // Refusal 4: a table, level or list over its most.
+use literal::builtin_type::BuiltinType;
 ghost use mathlib.Core.Path.{_≡_};
 ghost use mathlib.Core.List.{List};
 ghost use Prim.Native.Nat.{ℕ, _+_};
@@ -57,7 +58,7 @@ fn environment_within(words: &[u32], rows: &[u32], tables: &[u32]) -> bool
     if 2048 < view::row_count(tables, 3) {
         return false;
     }
-    if 243 < view::row_count(tables, 4) {
+    if 256 - BuiltinType::COUNT < view::row_count(tables, 4) {
         return false;
     }
     if 1024 < view::row_count(tables, 5) {

@@ -17,6 +17,7 @@ ghost use Rattle.sema.specs.Fields.{fields-held};
 ghost use Rattle.ctx_trait.specs.Parts.{separator};
 ghost use Rattle.emit_items.specs.Parts.{depth};
 use ctx_trait::put_separator;
+use literal::builtin_type::BuiltinType;
 use sema::fields::Fields;
 use sema::names::put_pos;
 use sema::names::put_sym;
@@ -394,7 +395,17 @@ pub fn generate_internal_types(
     let mut at = at;
     let mut i = 0;
     while i < count {
-        at = internal_type(out, at, end, plan, words, rows, tables, index, 13 + i);
+        at = internal_type(
+            out,
+            at,
+            end,
+            plan,
+            words,
+            rows,
+            tables,
+            index,
+            BuiltinType::COUNT + i,
+        );
         i += 1;
     }
     at

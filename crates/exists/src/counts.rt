@@ -1,4 +1,5 @@
 // How many rows a plan's tables have.
+use literal::builtin_type::BuiltinType;
 use view::environment::FunctionKind;
 ghost use mathlib.Core.Path.{_≡_};
 ghost use mathlib.Core.Bool.{true, false};
@@ -26,7 +27,7 @@ pub fn pos_count(tables: &[u32]) -> usize
 pub fn type_count(tables: &[u32]) -> usize
     ensures { λ n. ⌜ ((plan words rows : List ℕ) → n ≡ length ((environment-in plan words rows (now (tables .entry))) .types)) ⌝ }
 {
-    13 + view::row_count(tables, 4)
+    BuiltinType::COUNT + view::row_count(tables, 4)
 }
 
 pub fn term_count(tables: &[u32]) -> usize
@@ -39,13 +40,14 @@ pub fn term_count(tables: &[u32]) -> usize
 pub fn type_sort(words: &[u32], rows: &[u32], tables: &[u32], n: usize) -> u32
     ensures { λ s. ⌜ ((plan : List ℕ) → (eqb s 1 ≡ enum-exists (environment-in plan (now (words .entry)) (now (rows .entry)) (now (tables .entry))) n) × (eqb s 2 ≡ struct-exists (environment-in plan (now (words .entry)) (now (rows .entry)) (now (tables .entry))) n)) ⌝ }
 {
-    if n < 13 {
+    if n < BuiltinType::COUNT {
         return 0;
     }
-    if view::row_count(tables, 4) <= n - 13 {
+    if view::row_count(tables, 4) <= n - BuiltinType::COUNT {
         return 0;
     }
-    let k = view::word(words, rows, view::row_at(rows, tables, 4, n - 13), 0);
+    let r = view::row_at(rows, tables, 4, n - BuiltinType::COUNT);
+    let k = view::word(words, rows, r, 0);
     if k == 0 {
         return 0;
     }

@@ -1,4 +1,5 @@
 // Refusal 6: a binding's or arm's list length differs from what it names.
+use literal::builtin_type::BuiltinType;
 use view::binding::Binding;
 use view::block::Constraint;
 ghost use mathlib.Core.Path.{_≡_};
@@ -16,13 +17,14 @@ ghost use Rattle.exists.specs.Ready.{Ready, row-fits};
 fn struct_fields(words: &[u32], rows: &[u32], tables: &[u32], n: usize) -> usize
     ensures { λ c. ⌜ ((plan : List ℕ) → c ≡ field-count (fields-of (type-at (environment-in plan (now (words .entry)) (now (rows .entry)) (now (tables .entry))) n))) ⌝ }
 {
-    if n < 13 {
+    if n < BuiltinType::COUNT {
         return 0;
     }
-    if view::row_count(tables, 4) <= n - 13 {
+    if view::row_count(tables, 4) <= n - BuiltinType::COUNT {
         return 0;
     }
-    view::environment::type_field_count(words, rows, view::row_at(rows, tables, 4, n - 13))
+    let r = view::row_at(rows, tables, 4, n - BuiltinType::COUNT);
+    view::environment::type_field_count(words, rows, r)
 }
 
 // How many fields the variant k of a type has that has no place in the index.

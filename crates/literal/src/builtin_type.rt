@@ -57,7 +57,7 @@ impl IntType {
 impl BuiltinType {
     pub const COUNT: usize = 13;
 
-    pub const ALL: [BuiltinType; 13] = [
+    pub const ALL: [BuiltinType; BuiltinType::COUNT] = [
         BuiltinType::Bool,
         BuiltinType::Int(IntType::U8),
         BuiltinType::Int(IntType::U16),

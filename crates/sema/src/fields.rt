@@ -1,4 +1,5 @@
 // Fields of structs and variants, by value: the shape, the row whose list they are, and how many words stand before that list.
+use literal::builtin_type::BuiltinType;
 use text::number::put_decimal;
 use view::environment::Shape;
 ghost use mathlib.Core.Path.{_≡_};
@@ -30,14 +31,14 @@ pub struct Variant {
 pub fn fields_of(words: &[u32], rows: &[u32], tables: &[u32], n: usize) -> Fields
     ensures { λ r. ⌜ ((env : Environment) (plan index : List ℕ) → Holds env plan (now (words .entry)) (now (rows .entry)) (now (tables .entry)) index → fields-held (now (words .entry)) (now (rows .entry)) r ≡ fields-of (type-at env n)) ⌝ }
 {
-    if n < 13 {
+    if n < BuiltinType::COUNT {
         return Fields {
             shape: Shape::Unit,
             row: 0,
             header: 5,
         };
     }
-    let r = view::row_at(rows, tables, 4, n - 13);
+    let r = view::row_at(rows, tables, 4, n - BuiltinType::COUNT);
     let k = view::word(words, rows, r, 0);
     if k < 2 {
         return Fields {

@@ -23,20 +23,20 @@ pub struct TypeRow {
 pub fn type_at(words: &[u32], rows: &[u32], tables: &[u32], n: usize) -> TypeRow
     ensures { λ r. ⌜ ((env : Environment) (plan index : List ℕ) → Holds env plan (now (words .entry)) (now (rows .entry)) (now (tables .entry)) index → type-held (now (words .entry)) (now (rows .entry)) r ≡ type-at env n) ⌝ }
 {
-    if n < 13 {
-        let t = view::environment::builtin_at(n);
+    if n < BuiltinType::COUNT {
+        let t = BuiltinType::from_index(n);
         return TypeRow {
             ty: TypeData::Builtin(t),
             row: 0,
         };
     }
-    if view::row_count(tables, 4) <= n - 13 {
+    if view::row_count(tables, 4) <= n - BuiltinType::COUNT {
         return TypeRow {
             ty: TypeData::Builtin(BuiltinType::Bool),
             row: 0,
         };
     }
-    let r = view::row_at(rows, tables, 4, n - 13);
+    let r = view::row_at(rows, tables, 4, n - BuiltinType::COUNT);
     let t = view::environment::type_data_at(words, rows, r);
     TypeRow { ty: t, row: r }
 }
@@ -45,10 +45,10 @@ pub fn type_at(words: &[u32], rows: &[u32], tables: &[u32], n: usize) -> TypeRow
 pub fn is_ref(words: &[u32], rows: &[u32], tables: &[u32], n: usize) -> bool
     ensures { λ r. ⌜ ((env : Environment) (plan index : List ℕ) → Holds env plan (now (words .entry)) (now (rows .entry)) (now (tables .entry)) index → r ≡ is-ref env n) ⌝ }
 {
-    if n < 13 {
+    if n < BuiltinType::COUNT {
         return false;
     }
-    let r = view::row_at(rows, tables, 4, n - 13);
+    let r = view::row_at(rows, tables, 4, n - BuiltinType::COUNT);
     view::word(words, rows, r, 0) != 0
 }
 
@@ -56,7 +56,7 @@ pub fn is_ref(words: &[u32], rows: &[u32], tables: &[u32], n: usize) -> bool
 pub fn int_type(words: &[u32], rows: &[u32], tables: &[u32], n: usize) -> BuiltinType
     ensures { λ r. ⌜ ((env : Environment) (plan index : List ℕ) → Holds env plan (now (words .entry)) (now (rows .entry)) (now (tables .entry)) index → builtin-int r ≡ int-type (type-at env n)) ⌝ }
 {
-    view::environment::builtin_at(n)
+    BuiltinType::from_index(n)
 }
 
 // `Type::name` of sema.rs 310, put into the sink.
@@ -72,14 +72,14 @@ pub fn put_type(
 ) -> usize
     ensures { λ r. ⌜ ((env : Environment) (index : List ℕ) → Holds env (now (plan .entry)) (now (words .entry)) (now (rows .entry)) (now (tables .entry)) index → Puts end (type-text env (type-at env n)) (now (out .entry)) at (now (out .exit)) r) ⌝ }
 {
-    if n < 13 {
-        let t = view::environment::builtin_at(n);
+    if n < BuiltinType::COUNT {
+        let t = BuiltinType::from_index(n);
         return t.put_name(out, at, end);
     }
-    if view::row_count(tables, 4) <= n - 13 {
+    if view::row_count(tables, 4) <= n - BuiltinType::COUNT {
         return BuiltinType::Bool.put_name(out, at, end);
     }
-    let r = view::row_at(rows, tables, 4, n - 13);
+    let r = view::row_at(rows, tables, 4, n - BuiltinType::COUNT);
     let name = view::word(words, rows, r, 1);
     super::names::put_sym(out, at, end, plan, words, rows, tables, name)
 }

@@ -1,12 +1,9 @@
 // Types and terms: `Type` and `Term` of sema.rs.
 use literal::builtin_type::BuiltinType;
-use literal::builtin_type::IntType;
 ghost use mathlib.Core.Path.{_≡_};
 ghost use Prim.Native.Nat.{ℕ, _-_};
 ghost use mathlib.Core.List.{List};
-ghost use lib.ListN.{getD, drop};
-ghost use Rattle.literal.specs.BuiltinType.{all};
-ghost use Rattle.literal.specs.declared.builtin_type.BuiltinType.the-variants as builtin;
+ghost use lib.ListN.{drop};
 ghost use Rattle.plan.specs.Lookup.{fields-of, field-count};
 ghost use Rattle.rows.specs.View.{nth, function-of, shape-of, type-of, variant-of, term-of};
 ghost use Rattle.layout.specs.View.{cut};
@@ -186,26 +183,4 @@ pub fn variant_field_count(words: &[u32], rows: &[u32], r: usize) -> usize
 {
     let s = shape_made(super::word(words, rows, r, 2));
     field_count(words, rows, r, 3, s)
-}
-
-// `BuiltinType::ALL` at n, the first past its end.
-pub fn builtin_at(n: usize) -> BuiltinType
-    ensures { λ t. ⌜ t ≡ getD all n builtin.Bool ⌝ }
-{
-    match n {
-        0 => BuiltinType::Bool,
-        1 => BuiltinType::Int(IntType::U8),
-        2 => BuiltinType::Int(IntType::U16),
-        3 => BuiltinType::Int(IntType::U32),
-        4 => BuiltinType::Int(IntType::U64),
-        5 => BuiltinType::Int(IntType::U128),
-        6 => BuiltinType::Int(IntType::USize),
-        7 => BuiltinType::Int(IntType::I8),
-        8 => BuiltinType::Int(IntType::I16),
-        9 => BuiltinType::Int(IntType::I32),
-        10 => BuiltinType::Int(IntType::I64),
-        11 => BuiltinType::Int(IntType::I128),
-        12 => BuiltinType::Int(IntType::ISize),
-        _ => BuiltinType::Bool,
-    }
 }

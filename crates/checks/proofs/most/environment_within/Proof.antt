@@ -37,7 +37,11 @@ row-count-requires-3 c κs = search needs
 returns-3 : tie.Need-returns-3
 returns-3 c = λ plan. sym (environment-tests (c .before .before .before .before .before .before .before .before .before .args .words .now) (c .before .before .before .before .before .before .before .before .before .args .rows .now) (c .before .before .before .before .before .before .before .before .before .args .tables .now) plan ∙ rw (le-leb (length (table-rows (c .before .before .before .before .before .before .before .before .before .args .words .now) (c .before .before .before .before .before .before .before .before .before .args .rows .now) (c .before .before .before .before .before .before .before .before .before .args .tables .now) 1)) 64 (omega (arith, c .before .before .before .before .before .row-count .ensures .0 (c .before .before .before .before .before .before .before .before .before .args .words .now) (c .before .before .before .before .before .before .before .before .before .args .rows .now))), le-leb (length (table-rows (c .before .before .before .before .before .before .before .before .before .args .words .now) (c .before .before .before .before .before .before .before .before .before .args .rows .now) (c .before .before .before .before .before .before .before .before .before .args .tables .now) 2)) 2048 (omega (arith, c .before .before .before .row-count2 .ensures .0 (c .before .before .before .before .before .before .before .before .before .args .words .now) (c .before .before .before .before .before .before .before .before .before .args .rows .now))), lt-leb (length (table-rows (c .before .before .before .before .before .before .before .before .before .args .words .now) (c .before .before .before .before .before .before .before .before .before .args .rows .now) (c .before .before .before .before .before .before .before .before .before .args .tables .now) 3)) 2048 (omega (arith, c .before .row-count3 .ensures .0 (c .before .before .before .before .before .before .before .before .before .args .words .now) (c .before .before .before .before .before .before .before .before .before .args .rows .now)))))
 
--- src/most.rt:61:14
+-- src/most.rt:61:8
+sub-if4 : tie.Need-sub-if4
+sub-if4 c = search needs
+
+-- src/most.rt:61:35
 row-count-requires-4 : tie.Need-row-count-requires-4
 row-count-requires-4 c κs = search needs
 
@@ -95,6 +99,7 @@ environment-within-spec =
     returns-2
     row-count-requires-3
     returns-3
+    sub-if4
     row-count-requires-4
     returns-4
     row-count-requires-5

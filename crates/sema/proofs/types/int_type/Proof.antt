@@ -6,15 +6,15 @@ use Rattle.sema.proofs.types.int_type.Statement.{statement}
 use Rattle.sema.proofs.types.int_type.Tie as tie
 use Rattle.sema.proofs.types.int_type.Reads as reads
 use Rattle.sema.proofs.types.int_type.Lts as lts
-use Rattle.view.proofs.environment.builtin_at.Reads as builtin-at-reads
+use Rattle.literal.proofs.builtin_type.BuiltinType.from_index.Reads as from-index-reads
 
 -- src/types.rt:59:5
-builtin-at-requires : tie.Need-builtin-at-requires
-builtin-at-requires c κs = search needs
+from-index-requires : tie.Need-from-index-requires
+from-index-requires c κs = search needs
 
 -- src/types.rt:56:1
 returns : tie.Need-returns
-returns c = λ env plan index h. ap builtin-int (c .builtin-at .ensures) ∙ int-is h (c .before .before .before .before .args .n)
+returns c = λ env plan index h. ap builtin-int (c .from-index .ensures) ∙ int-is h (c .before .before .before .before .args .n)
 
 pub int-type-spec : {M : Type 1} → statement M
-int-type-spec = tie.close (tie.spec builtin-at-requires returns)
+int-type-spec = tie.close (tie.spec from-index-requires returns)

@@ -9,14 +9,14 @@ use Rattle.sema.proofs.types.put_type.Reads as reads
 use Rattle.sema.proofs.types.put_type.Lts as lts
 use Rattle.literal.proofs.builtin_type.BuiltinType.put_name.Reads as put-name-reads
 use Rattle.sema.proofs.names.put_sym.Reads as put-sym-reads
-use Rattle.view.proofs.environment.builtin_at.Reads as builtin-at-reads
+use Rattle.literal.proofs.builtin_type.BuiltinType.from_index.Reads as from-index-reads
 use Rattle.view.proofs.row_at.Reads as row-at-reads
 use Rattle.view.proofs.row_count.Reads as row-count-reads
 use Rattle.view.proofs.word.Reads as word-reads
 
 -- src/types.rt:76:13
-builtin-at-requires : tie.Need-builtin-at-requires
-builtin-at-requires c κs = search needs
+from-index-requires : tie.Need-from-index-requires
+from-index-requires c κs = search needs
 
 -- src/types.rt:77:9
 put-name-requires : tie.Need-put-name-requires
@@ -29,7 +29,7 @@ same-length c = search needs
 -- src/types.rt:77:9
 returns : tie.Need-returns
 unfolding type-text
-returns c = λ env index h. rw (← type-builtin h (c .before .before .before .before .before .before .before .before .before .before .before .args .n) (c .before .before .before .before .before .if1 .taken), ← c .before .before .before .before .builtin-at .ensures) (c .before .before .put-name .ensures)
+returns c = λ env index h. rw (← type-builtin h (c .before .before .before .before .before .before .before .before .before .before .before .args .n) (c .before .before .before .before .before .if1 .taken), ← c .before .before .before .before .from-index .ensures) (c .before .before .put-name .ensures)
 
 -- src/types.rt:79:8
 row-count-requires : tie.Need-row-count-requires
@@ -72,7 +72,7 @@ pub put-type-spec : {M : Type 1} → statement M
 put-type-spec =
     tie.close
     (tie.spec
-    builtin-at-requires
+    from-index-requires
     put-name-requires
     same-length
     returns

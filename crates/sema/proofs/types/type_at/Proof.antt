@@ -7,18 +7,18 @@ use Rattle.sema.proofs.types.type_at.Statement.{statement}
 use Rattle.sema.proofs.types.type_at.Tie as tie
 use Rattle.sema.proofs.types.type_at.Reads as reads
 use Rattle.sema.proofs.types.type_at.Lts as lts
-use Rattle.view.proofs.environment.builtin_at.Reads as builtin-at-reads
+use Rattle.literal.proofs.builtin_type.BuiltinType.from_index.Reads as from-index-reads
 use Rattle.view.proofs.environment.type_data_at.Reads as type-data-at-reads
 use Rattle.view.proofs.row_at.Reads as row-at-reads
 use Rattle.view.proofs.row_count.Reads as row-count-reads
 
 -- src/types.rt:27:13
-builtin-at-requires : tie.Need-builtin-at-requires
-builtin-at-requires c κs = search needs
+from-index-requires : tie.Need-from-index-requires
+from-index-requires c κs = search needs
 
 -- src/types.rt:28:9
 returns : tie.Need-returns
-returns c = λ env plan index h. ap Builtin (c .builtin-at .ensures) ∙ type-builtin h (c .before .before .before .before .before .args .n) (c .before .if1 .taken)
+returns c = λ env plan index h. ap Builtin (c .from-index .ensures) ∙ type-builtin h (c .before .before .before .before .before .args .n) (c .before .if1 .taken)
 
 -- src/types.rt:33:8
 row-count-requires : tie.Need-row-count-requires
@@ -44,7 +44,7 @@ pub type-at-spec : {M : Type 1} → statement M
 type-at-spec =
     tie.close
     (tie.spec
-    builtin-at-requires
+    from-index-requires
     returns
     row-count-requires
     returns-2
