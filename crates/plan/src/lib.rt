@@ -1,11 +1,1 @@
-// The plan: its length.
-ghost use mathlib.Core.Path.{_≡_};
-ghost use lib.Dec.{ltb};
-ghost use lib.ListN.{length};
-
-// Refusal 1: the plan is over its length.
-pub fn too_long(plan: &[u8]) -> bool
-    ensures { λ r. ⌜ r ≡ ltb 65536 (length (now (plan .entry))) ⌝ }
-{
-    65536 < plan.len()
-}
+// A plan as data, how its bytes are read and which are refused: definitions, in specs/. Nothing here runs.
