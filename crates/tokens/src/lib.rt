@@ -197,7 +197,8 @@ pub fn read_number(t: &[u8]) -> Number
     read_digits(t)
 }
 
-fn both(a: bool, b: bool) -> bool
+// Whether both hold, where neither is worth a way out.
+pub fn both(a: bool, b: bool) -> bool
     ensures { λ r. ⌜ r ≡ (a && b) ⌝ }
 {
     if a { b } else { false }
