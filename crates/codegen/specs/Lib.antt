@@ -8,7 +8,11 @@ pub mod Pattern
 pub mod Block
 pub mod Terms
 pub mod Answer
+pub mod Enclosing
 pub mod TakeOff
+pub mod TakeOffLaws
 pub mod Cases
+pub mod EnclosingCase
+pub mod TakeOffCase
 pub mod OddLaws
 pub mod AnswerLaws

@@ -2,7 +2,7 @@
 -- Assumes nothing: these are definitions.
 use Prim.Native.Nat.{ℕ, zero, suc, _*_}
 use mathlib.Core.Bool.{Bool, true, false, cond, _&&_}
-use mathlib.Core.Option.{Option, some, none}
+use mathlib.Core.Option.{Option, some, none, Option·map}
 use mathlib.Core.List.{List, [], _∷_, _++_}
 use lib.ListN.{length, getD, drop, replicate}
 use lib.Dec.{leb, ltb, eqb}
@@ -11,7 +11,7 @@ use Rattle.text.specs.Split.{starts-with}
 use Rattle.plan.specs.Plan.{Options, Environment, Generated, Plan}
 use Rattle.plan.specs.Row.{ControlFlow, Match, Equal, Loop, Return, Row, step, arm, level}
 use Rattle.plan.specs.Refusal.{Outcome, refused, accepted, outcome}
-use Rattle.codegen.specs.Piece.{breaks}
+use Rattle.codegen.specs.Piece.{plain, breaks}
 use Rattle.codegen.specs.Block.{words, overflow, What, line, edge, Part, arm-count, block-weight}
 use Rattle.codegen.specs.Terms.{splits, term-parts}
 use Rattle.codegen.specs.Items.{items}
@@ -106,31 +106,43 @@ plain-return (c ∷ s) =
     let turned = codes "return;" ++ drop 12 (c ∷ s) in
     cond (starts-with (codes "return true;") (c ∷ s)) turned more
 
--- "a closure's line is left out; any other loses four spaces at its front for each split arm that its row is below"
-unfoldable pub edited : Tag → List ℕ → List ℕ
-edited closure l = []
-edited (kept n) l = drop (4 * n) l ++ (10 ∷ [])
-edited (overflowing n) l = plain-return (drop (4 * n) l) ++ (10 ∷ [])
+-- a line without the n spaces at its front: none where it has fewer
+unfoldable pub spaces-off : ℕ → List ℕ → Option (List ℕ)
+spaces-off zero l = some l
+spaces-off (suc n) [] = none
+spaces-off (suc n) (c ∷ l) = let more = spaces-off n l in cond (eqb c 32) more none
 
--- what stands after the last tag's line stays
-unfoldable pub edit-lines : List Tag → List ℕ → List ℕ
-edit-lines [] s = s
-edit-lines (t ∷ ts) s = edited t (first-line s) ++ edit-lines ts (other-lines s)
+-- "a closure's line is left out; any other loses four spaces at its front for each split arm that its row is below"
+unfoldable pub edited : Tag → List ℕ → Option (List ℕ)
+edited closure l = some []
+edited (kept n) l = Option·map (λ s. s ++ (10 ∷ [])) (spaces-off (4 * n) l)
+edited (overflowing n) l = Option·map (λ s. plain-return s ++ (10 ∷ [])) (spaces-off (4 * n) l)
+
+-- a text before another, where there are both
+abbrev pub joined : Option (List ℕ) → Option (List ℕ) → Option (List ℕ)
+joined none t = none
+joined (some s) t = Option·map (λ r. s ++ r) t
+
+-- What stands after the last tag's line stays. There is no text where a line has fewer spaces than it is to lose, or where no line feed
+-- ends it.
+unfoldable pub edit-lines : List Tag → List ℕ → Option (List ℕ)
+edit-lines [] s = some s
+edit-lines (t ∷ ts) s = let more = joined (edited t (first-line s)) (edit-lines ts (other-lines s)) in cond (plain s) none more
 
 -- of the terms text, and of the whole text, whose lines before the terms have no row
-unfoldable pub take-off-terms : Plan → List ℕ → List ℕ
+unfoldable pub take-off-terms : Plan → List ℕ → Option (List ℕ)
 take-off-terms p s = edit-lines (tags p) s
 
-unfoldable pub take-off : Plan → List ℕ → List ℕ
+unfoldable pub take-off : Plan → List ℕ → Option (List ℕ)
 take-off p s = edit-lines (replicate (breaks (items p)) (kept 0) ++ tags p) s
 
--- fed a text and its plan's bytes
-unfoldable pub take-off-by : (Plan → List ℕ → List ℕ) → Outcome → List ℕ → List ℕ
-take-off-by edit (refused n) s = s
+-- fed a text and its plan's bytes; a plan that is refused has no text
+unfoldable pub take-off-by : (Plan → List ℕ → Option (List ℕ)) → Outcome → List ℕ → Option (List ℕ)
+take-off-by edit (refused n) s = none
 take-off-by edit (accepted p) s = edit p s
 
-unfoldable pub closures-off : List ℕ → List ℕ → List ℕ
+unfoldable pub closures-off : List ℕ → List ℕ → Option (List ℕ)
 closures-off plan s = take-off-by take-off (outcome plan) s
 
-unfoldable pub closures-off-terms : List ℕ → List ℕ → List ℕ
+unfoldable pub closures-off-terms : List ℕ → List ℕ → Option (List ℕ)
 closures-off-terms plan s = take-off-by take-off-terms (outcome plan) s

@@ -88,7 +88,7 @@ abbrev pub Before : ℕ → List Frame → Type 0
 Before i [] = Unit
 Before i (f ∷ fs) = (f .row < i) × Before i fs
 
-before-left : (i l : ℕ) (fs : List Frame) → Before i fs → Before i (left l fs)
+pub before-left : (i l : ℕ) (fs : List Frame) → Before i fs → Before i (left l fs)
 unfolding left
 before-left i l [] b = tt
 before-left i l (f ∷ fs) b = by-bool (λ t. Before i (cond t (left l fs) (f ∷ fs))) (leb l (f .level)) (before-left i l fs (b .1)) b

@@ -6,7 +6,7 @@ use mathlib.Core.Bool.{Bool, true, false, cond, _&&_}
 use mathlib.Core.Option.{Option, some, none}
 use mathlib.Core.List.{List, [], _∷_, _++_}
 use lib.Dec.{leb, ltb, eqb}
-use lib.ListN.{getD, take}
+use lib.ListN.{length, getD, take}
 use Rattle.text.specs.Codes.{codes}
 use Rattle.plan.specs.Plan.{Options, Environment, Generated, Plan}
 use Rattle.plan.specs.Row.{Row, step, arm, level}
@@ -16,6 +16,7 @@ use Rattle.codegen.specs.Piece.{plain}
 use Rattle.codegen.specs.Block.{Edge, opens, gives-false, ends, calls, What, line, edge, Part, text-of}
 use Rattle.codegen.specs.Terms.{term-parts, all-parts, terms-text, odds}
 use Rattle.codegen.specs.Answer.{whole-text, answer, terms-answer}
+use Rattle.codegen.specs.Enclosing.{Encloses}
 use Rattle.codegen.specs.TakeOff.{is-arm, closures-off, closures-off-terms}
 
 -- "Take any two plans that differ only in split and threshold, splitting off in one and on in the other, whatever the threshold,
@@ -37,41 +38,57 @@ pub record SplitPair (a b : List ℕ) (p q : Plan) : Type 0 where
 
 -- "Their counts are equal. The split text becomes the other, byte for byte, by removing the four lines of each closure, taking
 -- four spaces off the lines inside for each closure around them, and turning "return true;" into "return;" in overflow lines."
--- `closures-off` does so, fed the split text and its plan's bytes: TakeOff.antt of crate codegen. A buffer is long enough where
--- the answer's number is 0.
+-- `closures-off` does so, fed the split text and its plan's bytes: TakeOff.antt of crate codegen. It gives no text where a line lacks
+-- the spaces that it is to lose. A buffer is long enough where the answer's number is 0.
 
 abbrev pub CountsEqual : Type 0
 CountsEqual = (a b : List ℕ) (p q : Plan) → SplitPair a b p q → odds p ≡ odds q
 
 abbrev pub SplitTextBecomesOther : Type 0
-SplitTextBecomesOther = (a b : List ℕ) (p q : Plan) → SplitPair a b p q → closures-off a (whole-text p) ≡ whole-text q
+SplitTextBecomesOther = (a b : List ℕ) (p q : Plan) → SplitPair a b p q → closures-off a (whole-text p) ≡ some (whole-text q)
 
 abbrev pub SplitTermsTextBecomesOther : Type 0
-SplitTermsTextBecomesOther = (a b : List ℕ) (p q : Plan) → SplitPair a b p q → closures-off-terms a (terms-text p) ≡ terms-text q
+SplitTermsTextBecomesOther = (a b : List ℕ) (p q : Plan) → SplitPair a b p q → closures-off-terms a (terms-text p) ≡ some (terms-text q)
 
 abbrev pub AnswersAgree : Type 0
 AnswersAgree =
     (a b : List ℕ) (p q : Plan) → SplitPair a b p q → (m n : ℕ) → answer a m .number ≡ 0 → answer b n .number ≡ 0
-    → (closures-off a (answer a m .text) ≡ answer b n .text) × (answer a m .count ≡ answer b n .count)
+    → (closures-off a (answer a m .text) ≡ some (answer b n .text)) × (answer a m .count ≡ answer b n .count)
 
 abbrev pub TermsAnswersAgree : Type 0
 TermsAnswersAgree =
     (a b : List ℕ) (p q : Plan) → SplitPair a b p q → (m n : ℕ) → terms-answer a m .number ≡ 0 → terms-answer b n .number ≡ 0
-    → (closures-off-terms a (terms-answer a m .text) ≡ terms-answer b n .text) × (terms-answer a m .count ≡ terms-answer b n .count)
+    → (closures-off-terms a (terms-answer a m .text) ≡ some (terms-answer b n .text)) × (terms-answer a m .count ≡ terms-answer b n .count)
 
--- The same, for a reader of the bytes alone. The two plans have the same bytes but for the values of split and threshold: n and l are
--- the values of nopragmas and log, t and u the texts of the thresholds, and `rest` is all that follows the first table.
+-- The same, for a reader of the bytes alone. n and l are the values of nopragmas and log, s is that of split, t the text of the
+-- threshold, and `rest` is all that follows the first table.
 abbrev pub digit : Bool → ℕ
 digit b = cond b 49 48
 
 abbrev pub plan-bytes : Bool → Bool → Bool → List ℕ → List ℕ → List ℕ
 plan-bytes n l s t rest = codes "nopragmas log split threshold" ++ (10 ∷ digit n ∷ 32 ∷ digit l ∷ 32 ∷ digit s ∷ 32 ∷ t ++ (10 ∷ 10 ∷ rest))
 
+-- a and b are the same bytes but for the values of split, 1 in a and 0 in b, and of threshold
+pub record SplitBytes (a b : List ℕ) : Type 0 where
+  pub nopragmas : Bool
+  pub log : Bool
+  pub threshold : List ℕ
+  pub other-threshold : List ℕ
+  pub rest : List ℕ
+  pub in-line : plain threshold ≡ true
+  pub other-in-line : plain other-threshold ≡ true
+  pub split-bytes : a ≡ plan-bytes nopragmas log true threshold rest
+  pub other-bytes : b ≡ plan-bytes nopragmas log false other-threshold rest
+
 abbrev pub AnswersToBytesAgree : Type 0
 AnswersToBytesAgree =
-    (n l : Bool) (t u rest : List ℕ) → plain t ≡ true → plain u ≡ true → (i j : ℕ)
-    → let a = plan-bytes n l true t rest in let b = plan-bytes n l false u rest in
-    answer a i .number ≡ 0 → answer b j .number ≡ 0 → (closures-off a (answer a i .text) ≡ answer b j .text) × (answer a i .count ≡ answer b j .count)
+    (a b : List ℕ) → SplitBytes a b → (m n : ℕ) → answer a m .number ≡ 0 → answer b n .number ≡ 0
+    → (closures-off a (answer a m .text) ≡ some (answer b n .text)) × (answer a m .count ≡ answer b n .count)
+
+abbrev pub TermsAnswersToBytesAgree : Type 0
+TermsAnswersToBytesAgree =
+    (a b : List ℕ) → SplitBytes a b → (m n : ℕ) → terms-answer a m .number ≡ 0 → terms-answer b n .number ≡ 0
+    → (closures-off-terms a (terms-answer a m .text) ≡ some (terms-answer b n .text)) × (terms-answer a m .count ≡ terms-answer b n .count)
 
 -- "The closures in the split text are exactly those of the iterator-kind arms, in matches of two or more arms, whose body weighs
 -- more than the threshold"
@@ -193,6 +210,15 @@ NumberedInOpeningOrder =
     (a : List ℕ) (p : Plan) (g : Generated) → outcome a ≡ accepted p → BlockTable p g
     → let arms = split-arms (p .options) (p .env) g in
     numbers arms (opened-rows (term-parts (p .options) (p .env) g)) ≡ counting 0 (count arms)
+
+-- "inside it stand the lines of the rows below the arm": of each split arm r of a block table, its row being that after `earlier`. The
+-- closure's number and its four lines are those of `ClosuresAreThoseOfSplitArms`.
+abbrev pub ClosureEnclosesBody : Type 0
+ClosureEnclosesBody =
+    (a : List ℕ) (p : Plan) (g : Generated) → outcome a ≡ accepted p → BlockTable p g
+    → (earlier later : List Row) (r : Row) → g .rows ≡ earlier ++ (r ∷ later)
+    → let arms = split-arms (p .options) (p .env) g in let j = length earlier in
+    getD arms j false ≡ true → Encloses j (number arms j) (length (rows-below (level r) later)) (term-parts (p .options) (p .env) g)
 
 -- the parts of g are its lines in the text
 abbrev pub TextByBlockTables : Type 0

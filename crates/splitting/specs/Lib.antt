@@ -13,6 +13,8 @@ pub mod PlanBytes
 pub mod Closures
 pub mod SplitArms
 pub mod Openings
+pub mod Walk
+pub mod Enclosed
 pub mod Continue
 pub mod Blocks
 pub mod Marks

@@ -14,7 +14,7 @@ use Rattle.plan.specs.Plan.{Options, Environment, Generated, Plan}
 use Rattle.plan.specs.Layout.{_⊛_, each, one, then, bit, at, row, options-row, table, generated-terms, environment, plan-of, read}
 use Rattle.plan.specs.Refusal.{accepted, outcome}
 use Rattle.codegen.specs.Piece.{plain}
-use Rattle.splitting.specs.Demand3.{DifferOnlyInSplitting, SplitPair, digit, plan-bytes}
+use Rattle.splitting.specs.Demand3.{DifferOnlyInSplitting, SplitPair, digit, plan-bytes, SplitBytes}
 use Rattle.splitting.specs.Cases.{and-left, and-right, and-both, by-bool, none-some}
 use Rattle.splitting.specs.Accepted.{Holds, some-holds, apply-holds, apply-any, cond-holds, accepted-read}
 
@@ -193,7 +193,9 @@ module _ (n l : Bool) (t u : List ℕ) (p q : Plan) where
       let b : ReadFrom (Says n l false) (first-table n l false u ∷ ts) q = rw f at (plan-from (Says n l false) (first-table n l false u ∷ ts) (table-says n l false u)) in
       record { alike = same-rest ts a b; on = a .options .split; off = b .options .split }
 
-  pub bytes-pair : (rest : List ℕ) → plain t ≡ true → plain u ≡ true → outcome (plan-bytes n l true t rest) ≡ accepted p → outcome (plan-bytes n l false u rest) ≡ accepted q → SplitPair (plan-bytes n l true t rest) (plan-bytes n l false u rest) p q
-  bytes-pair rest h k e f =
-      let r : Read p q = read-pair (rest-tables rest) (sym (read-bytes n l true t rest h) ∙ accepted-read (plan-bytes n l true t rest) p e) (sym (read-bytes n l false u rest k) ∙ accepted-read (plan-bytes n l false u rest) q f) in
-      record { split-plan = e; other-plan = f; alike = r .alike; on = r .on; off = r .off }
+pub bytes-pair : (a b : List ℕ) (p q : Plan) → SplitBytes a b → outcome a ≡ accepted p → outcome b ≡ accepted q → SplitPair a b p q
+bytes-pair a b p q s e f =
+    let x : read a ≡ then (rest-tables (s .rest)) (λ ts. plan-of (first-table (s .nopragmas) (s .log) true (s .threshold) ∷ ts)) = ap read (s .split-bytes) ∙ read-bytes (s .nopragmas) (s .log) true (s .threshold) (s .rest) (s .in-line) in
+    let y : read b ≡ then (rest-tables (s .rest)) (λ ts. plan-of (first-table (s .nopragmas) (s .log) false (s .other-threshold) ∷ ts)) = ap read (s .other-bytes) ∙ read-bytes (s .nopragmas) (s .log) false (s .other-threshold) (s .rest) (s .other-in-line) in
+    let r : Read p q = read-pair (s .nopragmas) (s .log) (s .threshold) (s .other-threshold) p q (rest-tables (s .rest)) (sym x ∙ accepted-read a p e) (sym y ∙ accepted-read b q f) in
+    record { split-plan = e; other-plan = f; alike = r .alike; on = r .on; off = r .off }

@@ -1,7 +1,8 @@
 -- The terms text: without its closures it is the text of the other plan, and the odd counts are equal.
 use Prim.Native.Nat.{ℕ}
-use mathlib.Core.Path.{_≡_, refl, sym, ap₂, _∙_}
+use mathlib.Core.Path.{_≡_, refl, sym, ap, ap₂, _∙_}
 use mathlib.Core.Bool.{Bool, true, false, _&&_}
+use mathlib.Core.Option.{some}
 use mathlib.Core.List.{List, [], _∷_, append-nil}
 use native.Mathlib.Omega.{arith}
 use Rattle.plan.specs.Lookup.{term-at}
@@ -83,6 +84,10 @@ unfolding all-parts all-arms-placed term-tags around-tags Same
 tags-all o env [] h = refl
 tags-all o env (g ∷ gs) h = rw (around-append, same-term o env g (and-left (arms-placed [] (g .rows)) (all-arms-placed gs) h), tags-all o env gs (and-right (arms-placed [] (g .rows)) (all-arms-placed gs) h))
 
+pub no-tags : (s : List ℕ) → edit-lines [] s ≡ some s
+unfolding edit-lines
+no-tags s = refl
+
 module _ (p q : Plan) (a : Alike p q) (f : q .options .split ≡ false) where
   off-parts : parts q ≡ unsplit (parts p)
   off-parts = rw (← a .env, ← a .generated) (unsplit-all (p .options) (q .options) (p .env) (p .generated) (a .log) f)
@@ -95,6 +100,6 @@ module _ (p q : Plan) (a : Alike p q) (f : q .options .split ≡ false) where
     whole-tags : term-tags (p .options) (p .env) (p .generated) ≡ around-tags (parts p)
     whole-tags = tags-all (p .options) (p .env) (p .generated) n
 
-    pub terms-off : take-off-terms p (terms-text p) ≡ terms-text q
-    unfolding take-off-terms terms-text tags edit-lines
-    terms-off = rw (off-parts, ← a .env) (ap₂ edit-lines (whole-tags ∙ sym (append-nil _)) (sym (append-nil _)) ∙ edit-parts c (parts p) [] [] ∙ append-nil _)
+    pub terms-off : take-off-terms p (terms-text p) ≡ some (terms-text q)
+    unfolding take-off-terms terms-text tags
+    terms-off = rw (off-parts, ← a .env) (ap₂ edit-lines (whole-tags ∙ sym (append-nil _)) (sym (append-nil _)) ∙ edit-parts c (parts p) [] [] [] (no-tags []) ∙ ap some (append-nil _))

@@ -2,7 +2,7 @@
 use Prim.Native.Nat.{ℕ}
 use mathlib.Core.Path.{_≡_, refl, sym, ap, _∙_}
 use mathlib.Core.Bool.{Bool, true, false, cond}
-use mathlib.Core.Option.{Option, none}
+use mathlib.Core.Option.{Option, some, none}
 use mathlib.Core.List.{List, [], _∷_, _++_, append-assoc}
 use native.Mathlib.Omega.{arith}
 use lib.Dec.{leb}
@@ -13,7 +13,7 @@ use Rattle.codegen.specs.Block.{opens, gives-false, ends, calls, numbered}
 use Rattle.codegen.specs.Terms.{term-parts, all-parts, terms-text, odds}
 use Rattle.codegen.specs.Answer.{Answer, refuse, whole-text, answer-of, answer, terms-answer}
 use Rattle.codegen.specs.TakeOff.{take-off-by, closures-off, closures-off-terms}
-use Rattle.splitting.specs.Demand3.{DifferOnlyInSplitting, CountsEqual, SplitTextBecomesOther, SplitTermsTextBecomesOther, AnswersAgree, TermsAnswersAgree, plan-bytes, AnswersToBytesAgree, split-arms, number, four-lines, BlockTable, ClosuresAreThoseOfSplitArms, ClosuresHaveRows, NumberedInOpeningOrder, TextByBlockTables, numbers}
+use Rattle.splitting.specs.Demand3.{DifferOnlyInSplitting, CountsEqual, SplitTextBecomesOther, SplitTermsTextBecomesOther, AnswersAgree, TermsAnswersAgree, AnswersToBytesAgree, TermsAnswersToBytesAgree, split-arms, number, four-lines, BlockTable, ClosuresAreThoseOfSplitArms, ClosuresHaveRows, NumberedInOpeningOrder, ClosureEnclosesBody, TextByBlockTables, numbers}
 use Rattle.splitting.specs.Cases.{and-left, and-right}
 use Rattle.splitting.specs.Lines.{text-append}
 use Rattle.splitting.specs.Owners.{arms-placed}
@@ -23,6 +23,7 @@ use Rattle.splitting.specs.Accepted.{accepted-fit, refused-number}
 use Rattle.splitting.specs.PlanBytes.{bytes-pair}
 use Rattle.splitting.specs.Closures.{all-four, closures-of}
 use Rattle.splitting.specs.SplitArms.{block-numbers, closure-number, numbers-count}
+use Rattle.splitting.specs.Enclosed.{term-encloses}
 use Rattle.splitting.specs.Openings.{opened-term, rowed-term}
 
 -- THE TWO TEXTS
@@ -64,35 +65,41 @@ unfolding answer
 answers-agree a b p q s m n h k =
     let x : Answered whole-text p (answer a m) = answer-is whole-text m (outcome a) p (s .split-plan) h in
     let y : Answered whole-text q (answer b n) = answer-is whole-text n (outcome b) q (s .other-plan) k in
-    (ap (closures-off a) (x .text-is) ∙ split-text-becomes-other a b p q s ∙ sym (y .text-is), x .count-is ∙ counts-equal a b p q s ∙ sym (y .count-is))
+    (ap (closures-off a) (x .text-is) ∙ split-text-becomes-other a b p q s ∙ ap some (sym (y .text-is)), x .count-is ∙ counts-equal a b p q s ∙ sym (y .count-is))
 
 pub terms-answers-agree : TermsAnswersAgree
 unfolding terms-answer
 terms-answers-agree a b p q s m n h k =
     let x : Answered terms-text p (terms-answer a m) = answer-is terms-text m (outcome a) p (s .split-plan) h in
     let y : Answered terms-text q (terms-answer b n) = answer-is terms-text n (outcome b) q (s .other-plan) k in
-    (ap (closures-off-terms a) (x .text-is) ∙ split-terms-text-becomes-other a b p q s ∙ sym (y .text-is), x .count-is ∙ counts-equal a b p q s ∙ sym (y .count-is))
+    (ap (closures-off-terms a) (x .text-is) ∙ split-terms-text-becomes-other a b p q s ∙ ap some (sym (y .text-is)), x .count-is ∙ counts-equal a b p q s ∙ sym (y .count-is))
 
 -- a plan that is answered with number 0 is accepted
 record Accepts (a : List ℕ) : Type 0 where
   plan : Plan
   is : outcome a ≡ accepted plan
 
-accepts : (a : List ℕ) (i : ℕ) → answer a i .number ≡ 0 → Accepts a
-unfolding answer answer-of
-accepts a i h = go (outcome a) refl h
+accepts : (text : Plan → List ℕ) (a : List ℕ) (m : ℕ) → answer-of text m (outcome a) .number ≡ 0 → Accepts a
+unfolding answer-of
+accepts text a m h = go (outcome a) refl h
   where
-    go : (o : Outcome) → outcome a ≡ o → answer-of whole-text i o .number ≡ 0 → Accepts a
+    go : (o : Outcome) → outcome a ≡ o → answer-of text m o .number ≡ 0 → Accepts a
     go (refused n) e g = absurd (omega (arith, refused-number a n e, g))
     go (accepted p) e g = record { plan = p; is = e }
 
 pub answers-to-bytes-agree : AnswersToBytesAgree
-answers-to-bytes-agree n l t u rest h k i j f g =
-    let a : List ℕ = plan-bytes n l true t rest in
-    let b : List ℕ = plan-bytes n l false u rest in
-    let p : Accepts a = accepts a i f in
-    let q : Accepts b = accepts b j g in
-    answers-agree a b (p .plan) (q .plan) (bytes-pair n l t u (p .plan) (q .plan) rest h k (p .is) (q .is)) i j f g
+unfolding answer
+answers-to-bytes-agree a b s m n h k =
+    let p : Accepts a = accepts whole-text a m h in
+    let q : Accepts b = accepts whole-text b n k in
+    answers-agree a b (p .plan) (q .plan) (bytes-pair a b (p .plan) (q .plan) s (p .is) (q .is)) m n h k
+
+pub terms-answers-to-bytes-agree : TermsAnswersToBytesAgree
+unfolding terms-answer
+terms-answers-to-bytes-agree a b s m n h k =
+    let p : Accepts a = accepts terms-text a m h in
+    let q : Accepts b = accepts terms-text b n k in
+    terms-answers-agree a b (p .plan) (q .plan) (bytes-pair a b (p .plan) (q .plan) s (p .is) (q .is)) m n h k
 
 -- THE CLOSURES
 
@@ -122,6 +129,9 @@ closures-have-rows = rowed-term
 pub numbered-in-opening-order : NumberedInOpeningOrder
 numbered-in-opening-order a p g e b =
     ap (numbers (split-arms (p .options) (p .env) g)) (opened-term (p .options) (p .env) g (block-placed a p g e b)) ∙ numbers-count (split-arms (p .options) (p .env) g)
+
+pub closure-encloses-body : ClosureEnclosesBody
+closure-encloses-body a p g e b earlier later r q h = term-encloses (p .options) (p .env) g earlier later r q (block-placed a p g e b) h
 
 all-parts-append : (o : Options) (e : Environment) (gs hs : List Generated) → all-parts o e (gs ++ hs) ≡ all-parts o e gs ++ all-parts o e hs
 unfolding all-parts
