@@ -4,6 +4,7 @@
 use Prim.Native.Nat.{ℕ, zero, suc, _≤_}
 use mathlib.Core.Path.{_≡_, refl, sym, _∙_}
 use mathlib.Core.Bool.{Bool, true, false, cond}
+use mathlib.Core.Option.{some}
 use mathlib.Core.List.{List, [], _∷_}
 use native.Mathlib.Omega.{arith}
 use borrow.Author.Tests.{ne-eqb}
@@ -16,7 +17,7 @@ use Rattle.codegen.specs.Items.{items}
 use Rattle.codegen.specs.Terms.{terms-text, odds}
 use Rattle.codegen.specs.Answer.{Answer, refuse, answer-of, answer, terms-answer, whole-text}
 use Rattle.codegen.specs.TakeOff.{closures-off, closures-off-terms}
-use Rattle.splitting.specs.Demand3.{SplitPair, number, count}
+use Rattle.splitting.specs.Demand3.{SplitPair, SplitBytes, number, count}
 use Rattle.read_back.specs.Tokens.{piece-tokens, whole-tokens, terms-tokens}
 use Rattle.emitter.specs.declared.Emitted.{Emitted}
 use Rattle.emitter.specs.declared.Emitted.the-variants.{Refused, Text}
@@ -25,7 +26,7 @@ use Rattle.demands.specs.Demand1.{TextOrRefusal, items-text, demand-1, d
 use Rattle.demands.specs.Demand2.{Writes, ReadBack, FromRows, demand-2, demand-2-terms, demand-2-read-back, demand-2-read-back-terms, demand-2-origins, demand-2-origins-terms}
 use Rattle.demands.specs.Demand2Items.{NoLiterals, demand-2-items, demand-2-read-back-items}
 use Rattle.demands.specs.Demand2Boundaries.{Boundaries, demand-2-boundaries, demand-2-boundaries-terms}
-use Rattle.demands.specs.Demand3.{Closures, demand-3, demand-3-terms, demand-3-closures, demand-3-closures-terms}
+use Rattle.demands.specs.Demand3.{Closures, demand-3, demand-3-terms, demand-3-bytes, demand-3-bytes-terms, demand-3-closures, demand-3-closures-terms}
 
 -- what a C function tells: of a result with the property P its number n, which is 0 for a text, and as the first two entries of the
 -- slice its length and count, as far as there are such; the other entries are unchanged, and there are as many as before
@@ -136,8 +137,12 @@ module _ (plan before : List ℕ) {n : ℕ} {after told told' : List ℕ} (e : E
   whole-demand-3-closures = rizhavel-whole plan before _ (where-text _ (λ l k q. demand-3-closures plan before q)) e
 
   pub whole-demand-3 : (b : List ℕ) (p q : Plan) → SplitPair plan b p q → {m : ℕ} (before' : List ℕ) {after' other other' : List ℕ} → Exports (answer b (length before')) m before' after' other other'
-      → Told (Where (λ l k. Told (Where (λ l' k'. (closures-off plan (take l after) ≡ take l' after') × (k ≡ k'))) m other other')) n told told'
+      → Told (Where (λ l k. Told (Where (λ l' k'. (closures-off plan (take l after) ≡ some (take l' after')) × (k ≡ k'))) m other other')) n told told'
   whole-demand-3 b p q s before' f = rizhavel-whole plan before _ (where-text _ (λ l k x. rizhavel-whole b before' _ (where-text _ (λ l' k' y. demand-3 plan b p q s x y)) f)) e
+
+  pub whole-demand-3-bytes : (b : List ℕ) → SplitBytes plan b → {m : ℕ} (before' : List ℕ) {after' other other' : List ℕ} → Exports (answer b (length before')) m before' after' other other'
+      → Told (Where (λ l k. Told (Where (λ l' k'. (closures-off plan (take l after) ≡ some (take l' after')) × (k ≡ k'))) m other other')) n told told'
+  whole-demand-3-bytes b s before' f = rizhavel-whole plan before _ (where-text _ (λ l k x. rizhavel-whole b before' _ (where-text _ (λ l' k' y. demand-3-bytes plan b s x y)) f)) e
 
 -- `rizhavel_terms`
 
@@ -161,8 +166,12 @@ module _ (plan before : List ℕ) {n : ℕ} {after told told' : List ℕ} (e : E
   terms-demand-3-closures = rizhavel-terms plan before _ (where-text _ (λ l k q. demand-3-closures-terms plan before q)) e
 
   pub terms-demand-3 : (b : List ℕ) (p q : Plan) → SplitPair plan b p q → {m : ℕ} (before' : List ℕ) {after' other other' : List ℕ} → Exports (terms-answer b (length before')) m before' after' other other'
-      → Told (Where (λ l k. Told (Where (λ l' k'. (closures-off-terms plan (take l after) ≡ take l' after') × (k ≡ k'))) m other other')) n told told'
+      → Told (Where (λ l k. Told (Where (λ l' k'. (closures-off-terms plan (take l after) ≡ some (take l' after')) × (k ≡ k'))) m other other')) n told told'
   terms-demand-3 b p q s before' f = rizhavel-terms plan before _ (where-text _ (λ l k x. rizhavel-terms b before' _ (where-text _ (λ l' k' y. demand-3-terms plan b p q s x y)) f)) e
+
+  pub terms-demand-3-bytes : (b : List ℕ) → SplitBytes plan b → {m : ℕ} (before' : List ℕ) {after' other other' : List ℕ} → Exports (terms-answer b (length before')) m before' after' other other'
+      → Told (Where (λ l k. Told (Where (λ l' k'. (closures-off-terms plan (take l after) ≡ some (take l' after')) × (k ≡ k'))) m other other')) n told told'
+  terms-demand-3-bytes b s before' f = rizhavel-terms plan before _ (where-text _ (λ l k x. rizhavel-terms b before' _ (where-text _ (λ l' k' y. demand-3-bytes-terms plan b s x y)) f)) e
 
 -- `rizhavel_items`
 
