@@ -81,29 +81,30 @@ module _ {end : ℕ} {plan words rows tables index : List ℕ} {t first last : �
         let there : r < last = row-there words rows r last (rw q at g) in
         record { is = λ env c sp k y s. absurd (omega (arith, w .stacked .low d (omega arith), row-level words rows r last there, s .places r (omega (arith, w .begun)) there)) }
 
-    pub walking-close : {out' : List ℕ} {at' : ℕ} (l m : ℕ) → 0 < d → l ≡ next-level (rows-from words rows last r) → l ≤ getD stack d missing .level → m ≡ inside - closure-count (closure-told (getD stack d missing .closure))
-        → Puts end (block-text (1 + m + (d - 1)) (ltb 0 m) (closure-told (getD stack d missing .closure)) (is-several (purpose-told (getD stack d missing .purpose)))) out at out' at'
+    pub walking-close : {out' : List ℕ} {at' : ℕ} (l m depth : ℕ) (flag : Bool) → 0 < d → l ≡ next-level (rows-from words rows last r) → l ≤ getD stack d missing .level → m ≡ inside - closure-count (closure-told (getD stack d missing .closure))
+        → depth ≡ 1 + m + (d - 1) → flag ≡ ltb 0 m → Puts end (block-text depth flag (closure-told (getD stack d missing .closure)) (is-several (purpose-told (getD stack d missing .purpose)))) out at out' at'
         → Walking end plan words rows tables index t first last log ret-kind term-name split threshold out₀ at₀ n₀ refs₀ bound₀ stack scopes (d - 1) m count r out' at' n refs (getD scopes d [])
     unfolding frame-told
-    walking-close l m h q g u p =
+    walking-close l m depth flag h q g u deep inner p =
         let s : Stacked stack scopes (d - 1) m = stacked-pop (w .stacked) m h u in
         record {
           stacked = s;
           begun = w .begun;
           rest = λ env c sp k y. middle-close (rw (frames-pop stack scopes d h) at (w .rest env c sp k y)) (not-deeper-top (w .stacked) _ h (rw q at g))
-              (parts-puts (block-odds (frame-told (getD stack d missing) (getD scopes d [])) (frames-told stack scopes (d - 1))) (rw (block-is env (frames-told stack scopes (d - 1)) (frame-told (getD stack d missing) (getD scopes d [])), ← depth-is s, ← s .count) p));
+              (parts-puts (block-odds (frame-told (getD stack d missing) (getD scopes d [])) (frames-told stack scopes (d - 1))) (rw (block-is env (frames-told stack scopes (d - 1)) (frame-told (getD stack d missing) (getD scopes d [])), ← depth-is s, ← s .count) (rw (deep, inner) at p)));
         }
 
-    pub walking-row : {out' : List ℕ} {at' n' : ℕ} {x : Option Purpose} {splits : Bool} {scopes' : List (List Bool)} (refs' bound' scope : List Bool) (f : Frame) (l u inside' count' : ℕ) → d < 64 → d + 1 < length scopes → l ≡ next-level (rows-from words rows last r) → getD stack d missing .level < l
+    pub walking-row : {out' : List ℕ} {at' n' : ℕ} {x : Option Purpose} {splits : Bool} {scopes' : List (List Bool)} (refs' bound' scope : List Bool) (f : Frame) (l u inside' count' depth : ℕ) (flag : Bool) → d < 64 → d + 1 < length scopes → l ≡ next-level (rows-from words rows last r) → getD stack d missing .level < l
         → Saved (nth (cut words rows r) 1) scopes (d + 1) scope scopes'
-        → Writes-row end plan words rows tables index t (1 + inside + d) (ltb 0 inside) log ret-kind term-name (purpose-told (getD stack d missing .purpose)) split threshold (block-of (cut words rows r)) (rows-from words rows last (r + 1)) out at n (set-of refs) (set-of bound) out' at' n' (set-of refs') (set-of bound') x (set-of scope) splits
+        → depth ≡ 1 + inside + d → flag ≡ ltb 0 inside → Writes-row end plan words rows tables index t depth flag log ret-kind term-name (purpose-told (getD stack d missing .purpose)) split threshold (block-of (cut words rows r)) (rows-from words rows last (r + 1)) out at n (set-of refs) (set-of bound) out' at' n' (set-of refs') (set-of bound') x (set-of scope) splits
         → f .level ≡ l → f .row ≡ r - first → purpose-told (f .purpose) ≡ opened x → closure-told (f .closure) ≡ numbered splits count → u ≡ opening x → inside' ≡ cond splits (suc inside) inside → count' ≡ cond splits (suc count) count
         → Walking end plan words rows tables index t first last log ret-kind term-name split threshold out₀ at₀ n₀ refs₀ bound₀ (set stack (d + 1) f) scopes' (d + u) inside' count' (r + 1) out' at' n' refs' bound'
-    walking-row {x = x} {splits} {scopes'} refs' bound' scope f l u inside' count' room place q g kept y fl fr fp fc hu hi hc =
+    walking-row {out'} {at'} {n'} {x} {splits} {scopes'} refs' bound' scope f l u inside' count' depth flag room place q g kept deep inner y₀ fl fr fp fc hu hi hc =
+        let y : Writes-row end plan words rows tables index t (1 + inside + d) (ltb 0 inside) log ret-kind term-name (purpose-told (getD stack d missing .purpose)) split threshold (block-of (cut words rows r)) (rows-from words rows last (r + 1)) out at n (set-of refs) (set-of bound) out' at' n' (set-of refs') (set-of bound') x (set-of scope) splits = rw (deep, inner) at y₀ in
         let there : r < last = row-there words rows r last (rw q at g) in
         let row : Row = block-of (cut words rows r) in
         let rs : List Row = rows-from words rows last (r + 1) in
-        let deep : l ≡ suc (level row) = q ∙ row-level words rows r last there in
+        let deeper : l ≡ suc (level row) = q ∙ row-level words rows r last there in
         let may : ℕ → Bool = λ m. split && ltb threshold m in
         let weighed : splits ≡ is-arm-body x && may (block-weight (level row) rs) = y .weighs may (record { is = λ m. refl }) in
         let top : getD stack d missing .level < suc (level row) = omega arith in

@@ -10,7 +10,7 @@ use native.Mathlib.Omega.{arith}
 use lib.Dec.{ltb}
 use lib.ListN.{length, getD, set, length-set, replicate}
 use lib.Seq.{getD-set-same, getD-set-other}
-use borrow.Author.Tests.{ltb-true, ltb-false}
+use borrow.Author.Tests.{ltb-true, ltb-false, lt-ltb, le-ltb}
 use Rattle.plan.specs.Row.{Row, level}
 use Rattle.codegen.specs.Writer.{Marks}
 use Rattle.codegen.specs.Block.{Purpose, one-arm, arms-of, arm-body, body, closure-count, closures, purpose-of, is-arm-body, numbered, pushed}
@@ -21,6 +21,8 @@ use Rattle.view.proofs.Laws.{cuts-next, cuts-none}
 use Rattle.splitting.specs.Continue.{NotDeeper, Inside}
 use Rattle.emits.specs.Marks.{set-of}
 use Rattle.context.specs.Closing.{closure-told}
+use Rattle.context.specs.Context.{deeper, shallower, counted}
+use Rattle.context.specs.declared.body_context.Nesting.{Nesting}
 use Rattle.context.specs.declared.block.Closure.the-variants.{Absent}
 use Rattle.steps.specs.Told.{purpose-told}
 use Rattle.steps.specs.declared.Purpose.the-variants as p
@@ -42,7 +44,7 @@ abbrev pub opening : Option Purpose → ℕ
 opening none = 0
 opening (some p) = 1
 
-opening-one : (x : Option Purpose) → opening x ≤ 1
+pub opening-one : (x : Option Purpose) → opening x ≤ 1
 opening-one none = omega arith
 opening-one (some p) = omega arith
 
@@ -158,6 +160,11 @@ module _ {st : List Frame} {scopes : List (List Bool)} {d inside : ℕ} (s : Sta
   pub inside-few : inside ≤ d
   inside-few = omega (arith, s .count, closures-few st scopes d)
 
+  -- the top frame's closure is one of those around
+  pub closure-inside : 0 < d → closure-count (closure-told (getD st d missing .closure)) ≤ inside
+  unfolding closures frame-told
+  closure-inside h = omega (arith, rw (frames-pop st scopes d h) at (s .count))
+
   -- how deep a line is
   pub depth-is : 1 + inside + d ≡ closures (frames-told st scopes d) + suc (length (frames-told st scopes d))
   depth-is = omega (arith, s .count, frames-length st scopes d)
@@ -227,3 +234,70 @@ module _ {st : List Frame} {scopes scopes' : List (List Bool)} {kind : ℕ} {bou
     low = low-push;
     count = rw (s .count, stacked-frames (set-of (getD scopes' (d + 1) [])) (λ p q. refl)) (closures-pushed x l i (set-of (getD scopes' (d + 1) [])) t b m (frames-told st scopes d) sp);
   }
+
+-- NESTING
+
+-- u frames are opened, and a closure in the last of them if it splits
+pub record Begun (s : Nesting) (u : ℕ) (splits : Bool) (r : Nesting) : Type 0 where
+  pub depth : r .depth ≡ cond splits (suc (s .depth + u)) (s .depth + u)
+  pub split : r .«match_split» ≡ cond splits (suc (s .«match_split»)) (s .«match_split»)
+  pub closure : r .«in_closure» ≡ cond splits true (s .«in_closure»)
+
+-- a frame is closed, around which d are open, with the closure k in it
+pub record Ended (s : Nesting) (d : ℕ) (k : Option ℕ) (r : Nesting) : Type 0 where
+  pub depth : r .depth ≡ s .depth - 1 - closure-count k
+  pub split : r .«match_split» ≡ s .«match_split»
+  pub closure : s .«in_closure» ≡ ltb (d + 2) (s .depth) → r .«in_closure» ≡ ltb (d + 1) (r .depth)
+
+-- the depth and the number of open frames say whether a closure is around
+pub closure-flag : (d inside depth : ℕ) → depth ≡ 1 + inside + d → ltb (d + 1) depth ≡ ltb 0 inside
+closure-flag d zero depth h = le-ltb (d + 1) depth (omega arith)
+closure-flag d (suc n) depth h = lt-ltb (d + 1) depth (omega arith) ∙ sym (lt-ltb 0 (suc n) (omega arith))
+
+pub depth-more : (b : Bool) (d inside depth u depth' : ℕ) → depth ≡ 1 + inside + d → depth' ≡ cond b (suc (depth + u)) (depth + u) → (depth' - 1 - (d + u) ≡ cond b (suc inside) inside) × (depth' ≡ 1 + cond b (suc inside) inside + (d + u))
+depth-more true d inside depth u depth' h g = (omega arith, omega arith)
+depth-more false d inside depth u depth' h g = (omega arith, omega arith)
+
+pub flag-more : (b : Bool) (d inside depth u depth' : ℕ) → depth ≡ 1 + inside + d → depth' ≡ cond b (suc (depth + u)) (depth + u) → cond b true (ltb (d + 1) depth) ≡ ltb (d + u + 1) depth'
+flag-more true d inside depth u depth' h g = sym (lt-ltb (d + u + 1) depth' (omega arith))
+flag-more false d inside depth u depth' h g = closure-flag d inside depth h ∙ sym (closure-flag (d + u) inside depth' (omega arith))
+
+flag-less : (d n : ℕ) → d + 1 < n → ltb (d + 2) n ≡ ltb (d + 1) (n - 1)
+flag-less d n h =
+    let q : d + 2 ≡ d + 1 + 1 = omega arith in
+    rw q (closure-flag (d + 1) (n - 2 - d) n (omega arith) ∙ sym (closure-flag d (n - 2 - d) (n - 1) (omega arith)))
+
+module _ (s : Nesting) where
+  pub begun-none : Begun s 0 false s
+  begun-none = record { depth = sym (add-zero (s .depth)); split = refl; closure = refl }
+
+  pub begun-block : {r : Nesting} → r ≡ deeper s → Begun s 1 false r
+  begun-block q = record { depth = ap (λ x. x .depth) q; split = ap (λ x. x .«match_split») q; closure = ap (λ x. x .«in_closure») q }
+
+  pub begun-closure : (u : ℕ) {n m r : Nesting} → Begun s u false n → m ≡ counted n → r ≡ deeper m → Begun s u true (record { depth = r .depth; «match_split» = r .«match_split»; «in_closure» = true })
+  begun-closure u {n} {m} {r} b q g =
+      let deep : r .depth ≡ n .depth + 1 = ap (λ x. x .depth) g ∙ ap (λ x. x .depth + 1) q in
+      let more : r .«match_split» ≡ n .«match_split» + 1 = ap (λ x. x .«match_split») g ∙ ap (λ x. x .«match_split») q in
+      record { depth = omega (arith, deep, b .depth); split = omega (arith, more, b .split); closure = refl }
+
+  module _ (d : ℕ) (h : d + 1 < s .depth) {r : Nesting} (q : r ≡ shallower s) where
+    pub ended-block : Ended s d none r
+    ended-block =
+        let less : r .depth ≡ s .depth - 1 = ap (λ x. x .depth) q in
+        record { depth = omega (arith, less); split = ap (λ x. x .«match_split») q; closure = λ g. ap (λ x. x .«in_closure») q ∙ g ∙ flag-less d (s .depth) h ∙ ap (ltb (d + 1)) (sym less) }
+
+    pub ended-closure : (k : ℕ) {t : Nesting} → t ≡ shallower r → Ended s d (some k) (record { depth = t .depth; «match_split» = t .«match_split»; «in_closure» = ltb (d + 1) (t .depth) })
+    ended-closure k {t} g =
+        let less : t .depth ≡ s .depth - 1 - 1 = ap (λ x. x .depth) g ∙ ap (λ x. x .depth - 1) q in
+        record { depth = omega (arith, less); split = ap (λ x. x .«match_split») g ∙ ap (λ x. x .«match_split») q; closure = λ e. refl }
+
+-- a frame closes, with k closures in it
+module _ (d inside k depth n : ℕ) (h : 0 < d) (g : depth ≡ 1 + inside + d) (l : k ≤ inside) (q : n ≡ depth - 1 - k) where
+  sum : n + k ≡ inside + d
+  sum = omega arith
+
+  pub depth-less : n ≡ 1 + (inside - k) + (d - 1)
+  depth-less = omega (arith, sum)
+
+  pub inside-less : n - 1 - (d - 1) ≡ inside - k
+  inside-less = omega (arith, depth-less)

@@ -3,23 +3,27 @@ use super::row::emit_bind_order;
 use super::row::emit_rest;
 use context::block::Closure;
 use context::block::end_block;
+use context::body_context::BodyContext;
+use context::body_context::Nesting;
+use context::body_context::enter_scope;
 use emits::Written;
 use sema::signature::ReturnKind;
 use steps::Opens;
 use steps::Purpose;
 ghost use mathlib.Core.Path.{_≡_};
-ghost use mathlib.Core.Bool.{cond};
+ghost use mathlib.Core.Bool.{false};
 ghost use lib.ListN.{length};
-ghost use Prim.Native.Nat.{suc, _-_, _<_, _≤_};
-ghost use Rattle.codegen.specs.Block.{closure-count, numbered};
+ghost use Prim.Native.Nat.{_+_, _<_, _≤_};
+ghost use Rattle.codegen.specs.Block.{numbered};
 ghost use Rattle.rows.specs.View.{nth};
 ghost use Rattle.layout.specs.View.{cut};
 ghost use Rattle.context.specs.Closing.{closure-told};
+ghost use Rattle.context.specs.Context.{outermost};
 ghost use Rattle.context.specs.Laws.{is-several};
 ghost use Rattle.sema.specs.Signature.{return-kind-told};
 ghost use Rattle.steps.specs.Told.{purpose-told, opens-told};
 ghost use Rattle.blocks.specs.Row.{rows-from};
-ghost use Rattle.blocks.specs.Stack.{next-level, opened, opening, Saved};
+ghost use Rattle.blocks.specs.Stack.{next-level, opened, opening, Saved, Begun, Ended};
 ghost use Rattle.blocks.specs.Loop.{Block-written};
 
 // An open frame: one more than the level of its row (0: the root), the row, what it is for, and the closure in it.
@@ -39,21 +43,6 @@ fn next_level(words: &[u32], rows: &[u32], r: usize, last: usize) -> usize
         return level as usize + 1;
     }
     0
-}
-
-// How many closures are left around where a frame has closed.
-fn fewer(inside: usize, closure: Closure) -> usize
-    ensures { λ n. ⌜ n ≡ inside - closure-count (closure-told closure) ⌝ }
-{
-    match closure {
-        Closure::Absent => inside,
-        Closure::Number(_) => {
-            if inside == 0 {
-                return 0;
-            }
-            inside - 1
-        }
-    }
 }
 
 // Is a frame a match of several arms?
@@ -98,15 +87,53 @@ fn number(splits: bool, n: usize) -> Closure
     Closure::Absent
 }
 
-// One more, if there is a closure.
-fn more(n: usize, splits: bool) -> usize
-    requires { ⌜ n < 4294967296 ⌝ }
-    ensures { λ m. ⌜ m ≡ cond splits (suc n) n ⌝ }
+// What a row does to the nesting: the block of the frame that it opens begins.
+fn begin_opened(nesting: Nesting, opens: Opens) -> Nesting
+    requires { ⌜ nesting .depth < 4095 ⌝ }
+    ensures { λ n. ⌜ Begun nesting (opening (opens-told opens)) false n ⌝ }
 {
-    if splits {
-        return n + 1;
+    match opens {
+        Opens::Nothing => nesting,
+        Opens::Frame(_) => nesting.begin_block(),
     }
-    n
+}
+
+// The same, and if the frame has a closure, that is numbered, and its block begins too: codegen.rs 885 to 889.
+fn begin_frame(nesting: Nesting, opens: Opens, splits: bool) -> Nesting
+    requires { ⌜ (nesting .depth < 4095) × (nesting .«match_split» < 4294967296) ⌝ }
+    ensures { λ n. ⌜ Begun nesting (opening (opens-told opens)) splits n ⌝ }
+{
+    let begun = begin_opened(nesting, opens);
+    if !splits {
+        return begun;
+    }
+    let counted = begun.count_split();
+    let inner = counted.begin_block();
+    Nesting {
+        depth: inner.depth,
+        match_split: inner.match_split,
+        in_closure: true,
+    }
+}
+
+// A frame closes, around which d are open: its block ends, and so does that of its closure. Inside a closure stands what is deeper than
+// the frames around it.
+fn end_frame(nesting: Nesting, d: usize, closure: Closure) -> Nesting
+    requires { ⌜ d + 1 < nesting .depth ⌝ }
+    ensures { λ n. ⌜ Ended nesting d (closure-told closure) n ⌝ }
+{
+    let ended = nesting.end_block();
+    match closure {
+        Closure::Absent => ended,
+        Closure::Number(_) => {
+            let outer = ended.end_block();
+            Nesting {
+                depth: outer.depth,
+                match_split: outer.match_split,
+                in_closure: d + 1 < outer.depth,
+            }
+        }
+    }
 }
 
 // The bindings that have names where the frame that row r opens closes are kept; a `return` opens no frame.
@@ -124,18 +151,17 @@ fn save_scope(
     if view::word(words, rows, r, 1) == 3 {
         return;
     }
-    scopes[top] = *bound;
+    scopes[top] = enter_scope(*bound);
 }
 
-// The rows from row `first` up to row `last`, the block of a generated term. Lent are the context's marks, and room for the
-// bindings that have names where each open frame closes.
+// The rows from row `first` up to row `last`, the block of a generated term. The context has the arguments' marks. Lent is room for
+// the bindings that have names where each open frame closes.
 pub fn emit_block_contents(
     out: &mut [u8],
     end: usize,
     at: usize,
     odd: usize,
-    refs: &mut [bool; 1024],
-    bound: &mut [bool; 1024],
+    context: BodyContext,
     scopes: &mut [[bool; 1024]],
     plan: &[u8],
     words: &[u32],
@@ -151,8 +177,8 @@ pub fn emit_block_contents(
     split: bool,
     threshold: usize,
 ) -> Written
-    requires { ⌜ (last < 4294967296) × (0 < length (now scopes)) ⌝ }
-    ensures { λ w. ⌜ Block-written end (now (plan .entry)) (now (words .entry)) (now (rows .entry)) (now (tables .entry)) (now (index .entry)) t first last log (return-kind-told «ret_kind») «term_name» split threshold (length (now (scopes .entry))) (now (refs .entry)) (now (bound .entry)) (now (out .entry)) at odd (now (out .exit)) (w .at) (w .odd) ⌝ }
+    requires { ⌜ (last < 4294967296) × (0 < length (now scopes)) × (context .nesting ≡ outermost) ⌝ }
+    ensures { λ w. ⌜ Block-written end (now (plan .entry)) (now (words .entry)) (now (rows .entry)) (now (tables .entry)) (now (index .entry)) t first last log (return-kind-told «ret_kind») «term_name» split threshold (length (now (scopes .entry))) (context .«is_ref») (context .«is_bound») (now (out .entry)) at odd (now (out .exit)) (w .at) (w .odd) ⌝ }
 {
     let root = Frame {
         level: 0,
@@ -162,11 +188,15 @@ pub fn emit_block_contents(
     };
     let mut stack = [root; 65];
     let mut d = 0;
-    let mut inside = 0;
-    let mut count = 0;
+    let mut state = context;
+    let outermost = context.nesting;
+    state.nesting = outermost.begin_block();
+    // Taken out, since two fields of one value can't be lent at once.
+    let mut refs = state.is_ref;
     let mut r = first;
     let mut w = Written { at: at, odd: odd };
     while w.at < end {
+        let nesting = state.nesting;
         let f = stack[d];
         let closure = f.closure;
         let purpose = f.purpose;
@@ -175,15 +205,16 @@ pub fn emit_block_contents(
             if d == 0 {
                 return w;
             }
-            *bound = scopes[d];
+            state.is_bound = scopes[d];
             d -= 1;
-            inside = fewer(inside, closure);
+            let outer = end_frame(nesting, d, closure);
+            state.nesting = outer;
             w.at = end_block(
                 out,
                 w.at,
                 end,
-                1 + inside + d,
-                0 < inside,
+                outer.depth,
+                outer.in_closure,
                 closure,
                 is_several(purpose),
             );
@@ -196,14 +227,13 @@ pub fn emit_block_contents(
         if scopes.len() <= top {
             return w;
         }
-        let depth = 1 + inside + d;
         let b = emit_bind_order(
             out,
             end,
             w.at,
             w.odd,
-            refs,
-            bound,
+            &mut refs,
+            &mut state.is_bound,
             plan,
             words,
             rows,
@@ -211,16 +241,16 @@ pub fn emit_block_contents(
             index,
             t,
             r,
-            depth,
+            nesting.depth,
         );
-        save_scope(scopes, top, bound, words, rows, r);
+        save_scope(scopes, top, &state.is_bound, words, rows, r);
         let k = emit_rest(
             out,
             end,
             b.at,
             b.odd,
-            refs,
-            bound,
+            &mut refs,
+            &mut state.is_bound,
             plan,
             words,
             rows,
@@ -229,8 +259,8 @@ pub fn emit_block_contents(
             t,
             r,
             last,
-            depth,
-            0 < inside,
+            nesting.depth,
+            nesting.in_closure,
             log,
             ret_kind,
             term_name,
@@ -243,11 +273,10 @@ pub fn emit_block_contents(
             level: next,
             row: r - first,
             purpose: purpose_of(opens),
-            closure: number(k.splits, count),
+            closure: number(k.splits, nesting.match_split),
         };
         d += frame_count(opens);
-        inside = more(inside, k.splits);
-        count = more(count, k.splits);
+        state.nesting = begin_frame(nesting, opens, k.splits);
         w = Written {
             at: k.at,
             odd: k.odd,

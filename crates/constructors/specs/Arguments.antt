@@ -79,10 +79,10 @@ module _ (words rows : List ℕ) (r last i b : ℕ) (m : Marks) where
 -- MARKING
 
 pub same-all : {s : BodyContext} → Same-but-refs s s
-same-all = record { bound = refl; depth = refl; split = refl; closure = refl }
+same-all = record { bound = refl; nesting = refl }
 
 pub same-then : {s r t : BodyContext} → Same-but-refs s r → Same-but-refs r t → Same-but-refs s t
-same-then a b = record { bound = b .bound ∙ a .bound; depth = b .depth ∙ a .depth; split = b .split ∙ a .split; closure = b .closure ∙ a .closure }
+same-then a b = record { bound = b .bound ∙ a .bound; nesting = b .nesting ∙ a .nesting }
 
 module _ (env : Environment) (bs : List BindingRow) (i : ℕ) (ts : List ℕ) (m : Marks) where
   pub refs-next : {m' : Marks} (ty : ℕ) → i < length ts → ty ≡ getD ts i 0 → m' ≡ cond (is-ref env ty) (mark-argument i 0 bs m) m → argument-refs env bs i (drop i ts) m ≡ argument-refs env bs (i + 1) (drop (i + 1) ts) m'

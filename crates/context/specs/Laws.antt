@@ -40,7 +40,7 @@ is-several (arms-of q) = true
 is-several arm-body = false
 is-several body = false
 
-action-is : (k : ℕ) → iter-overflow-action k ≡ overflow-action (ltb 0 k)
+pub action-is : (k : ℕ) → iter-overflow-action k ≡ overflow-action (ltb 0 k)
 unfolding overflow-action
 action-is zero = refl
 action-is (suc k) = rw (lt-ltb 0 (suc k) (omega arith))

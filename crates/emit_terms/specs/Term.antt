@@ -29,7 +29,7 @@ use Rattle.emits.specs.Marks.{set-of}
 use Rattle.emits.specs.Rows.{run-parts, Parts-emit, _⟫ₚ_, run-walk, Walk-emits}
 use Rattle.sema.specs.Holds.{Holds}
 use Rattle.sema.proofs.Laws.{term-row}
-use Rattle.context.specs.Context.{New, Same-but-refs}
+use Rattle.context.specs.Context.{outermost, New, Same-but-refs}
 use Rattle.context.specs.Laws.{parts-puts}
 use Rattle.context.specs.declared.body_context.BodyContext.{BodyContext}
 use Rattle.constructors.specs.Lines.{head-text, arguments-text, result-text, signature-is, signature-odds}
@@ -113,6 +113,7 @@ pub record Options-told (o : Options) (log split : Bool) (threshold : ℕ) : Typ
 pub record Started (words rows tables : List ℕ) (t : ℕ) (sig : Environment → ExternalSig) (s : BodyContext) : Type 0 where
   pub refs : (env : Environment) (plan index : List ℕ) → Holds env plan words rows tables index → set-of (s .«is_ref») ≡ argument-refs env (generated-at words rows tables t .bindings) 0 (sig env .param-tys) no-marks
   pub bound : set-of (s .«is_bound») ≡ no-marks
+  pub nesting : s .nesting ≡ outermost
 
 and-and : (a b c : Bool) → a && (b && c) ≡ (a && b) && c
 and-and true b c = refl
@@ -186,6 +187,7 @@ module _ {words rows tables : List ℕ} {first last : ℕ} (t : ℕ) {sig : Envi
   started n m a b r = record {
     refs = λ env plan index h. r env plan index h ∙ rw (bindings-are words rows tables t a b, n .refs);
     bound = ap set-of (m .bound) ∙ n .bound;
+    nesting = m .nesting ∙ n .nesting;
   }
 
 module _ {e : ℕ} {env : Environment} {plan words rows tables index : List ℕ} {first last : ℕ} {o : List ℕ} {at n : ℕ} {o' : List ℕ} {at' n' : ℕ} (t : ℕ) (op : Options) (sig : Environment → ExternalSig) (s : BodyContext) where

@@ -20,6 +20,7 @@ ghost use Rattle.view.specs.Tables.{generated-at};
 ghost use Rattle.emits.specs.Rows.{Parts-emit};
 ghost use Rattle.sema.specs.Holds.{Holds};
 ghost use Rattle.sema.specs.Signature.{return-kind-told, sig-told};
+ghost use Rattle.context.specs.Context.{outermost};
 ghost use Rattle.blocks.specs.Row.{rows-from};
 ghost use Rattle.blocks.specs.Loop.{Block-written};
 ghost use Rattle.emit_terms.specs.Accepted.{Term-fits};
@@ -73,8 +74,7 @@ fn emit_shallow(
     end: usize,
     at: usize,
     odd: usize,
-    refs: &mut [bool; 1024],
-    bound: &mut [bool; 1024],
+    context: BodyContext,
     plan: &[u8],
     words: &[u32],
     rows: &[u32],
@@ -89,8 +89,8 @@ fn emit_shallow(
     split: bool,
     threshold: usize,
 ) -> Written
-    requires { ⌜ last < 4294967296 ⌝ }
-    ensures { λ w. ⌜ Block-written end (now (plan .entry)) (now (words .entry)) (now (rows .entry)) (now (tables .entry)) (now (index .entry)) t first last log (return-kind-told «ret_kind») «term_name» split threshold 9 (now (refs .entry)) (now (bound .entry)) (now (out .entry)) at odd (now (out .exit)) (w .at) (w .odd) ⌝ }
+    requires { ⌜ (last < 4294967296) × (context .nesting ≡ outermost) ⌝ }
+    ensures { λ w. ⌜ Block-written end (now (plan .entry)) (now (words .entry)) (now (rows .entry)) (now (tables .entry)) (now (index .entry)) t first last log (return-kind-told «ret_kind») «term_name» split threshold 9 (context .«is_ref») (context .«is_bound») (now (out .entry)) at odd (now (out .exit)) (w .at) (w .odd) ⌝ }
 {
     let mut scopes = [[false; 1024]; 9];
     emit_block_contents(
@@ -98,8 +98,7 @@ fn emit_shallow(
         end,
         at,
         odd,
-        refs,
-        bound,
+        context,
         &mut scopes,
         plan,
         words,
@@ -123,8 +122,7 @@ fn emit_deep(
     end: usize,
     at: usize,
     odd: usize,
-    refs: &mut [bool; 1024],
-    bound: &mut [bool; 1024],
+    context: BodyContext,
     plan: &[u8],
     words: &[u32],
     rows: &[u32],
@@ -139,8 +137,8 @@ fn emit_deep(
     split: bool,
     threshold: usize,
 ) -> Written
-    requires { ⌜ last < 4294967296 ⌝ }
-    ensures { λ w. ⌜ Block-written end (now (plan .entry)) (now (words .entry)) (now (rows .entry)) (now (tables .entry)) (now (index .entry)) t first last log (return-kind-told «ret_kind») «term_name» split threshold 65 (now (refs .entry)) (now (bound .entry)) (now (out .entry)) at odd (now (out .exit)) (w .at) (w .odd) ⌝ }
+    requires { ⌜ (last < 4294967296) × (context .nesting ≡ outermost) ⌝ }
+    ensures { λ w. ⌜ Block-written end (now (plan .entry)) (now (words .entry)) (now (rows .entry)) (now (tables .entry)) (now (index .entry)) t first last log (return-kind-told «ret_kind») «term_name» split threshold 65 (context .«is_ref») (context .«is_bound») (now (out .entry)) at odd (now (out .exit)) (w .at) (w .odd) ⌝ }
 {
     let mut scopes = [[false; 1024]; 65];
     emit_block_contents(
@@ -148,8 +146,7 @@ fn emit_deep(
         end,
         at,
         odd,
-        refs,
-        bound,
+        context,
         &mut scopes,
         plan,
         words,
@@ -189,8 +186,6 @@ pub fn emit_body(
     ensures { λ w. ⌜ ((env : Environment) (o : Options) → Holds env (now (plan .entry)) (now (words .entry)) (now (rows .entry)) (now (tables .entry)) (now (index .entry)) → Options-told o log split threshold → Term-fits (generated-at (now (words .entry)) (now (rows .entry)) (now (tables .entry)) t) → sig-told env sig ≡ constructor-sig (term-at env (generated-at (now (words .entry)) (now (rows .entry)) (now (tables .entry)) t .term)) → name ≡ term-at env (generated-at (now (words .entry)) (now (rows .entry)) (now (tables .entry)) t .term) .name → Parts-emit end env (walk (body-of o env (generated-at (now (words .entry)) (now (rows .entry)) (now (tables .entry)) t)) (splits o env (generated-at (now (words .entry)) (now (rows .entry)) (now (tables .entry)) t)) (start env (generated-at (now (words .entry)) (now (rows .entry)) (now (tables .entry)) t)) 0 (generated-at (now (words .entry)) (now (rows .entry)) (now (tables .entry)) t .rows)) (now (out .entry)) at odd (tt {0}) (now (out .exit)) (w .at) (w .odd) (tt {0})) ⌝ }
 {
     let context = begin_body(words, rows, tables, t, sig);
-    let mut refs = context.is_ref;
-    let mut bound = context.is_bound;
     let first = view::bound(tables, t + 2);
     let last = view::next_bound(tables, t + 2);
     let kind = sig.ret_kind;
@@ -201,8 +196,7 @@ pub fn emit_body(
             end,
             at,
             odd,
-            &mut refs,
-            &mut bound,
+            context,
             plan,
             words,
             rows,
@@ -223,8 +217,7 @@ pub fn emit_body(
         end,
         at,
         odd,
-        &mut refs,
-        &mut bound,
+        context,
         plan,
         words,
         rows,

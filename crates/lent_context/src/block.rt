@@ -13,7 +13,7 @@ ghost use Rattle.lent_context.specs.Block.{Block-steps};
 // The steps around an arm: its scope is entered (codegen.rs 867) and its block begun (871), a binding is marked (562) and has a name (737),
 // a closure is numbered (885), and the block ends (904).
 pub fn block_steps(context: BodyContext, binding: usize, is_ref: bool) -> BodyContext
-    requires { ⌜ (context .depth < 4096) × (context .«match_split» < 4294967296) ⌝ }
+    requires { ⌜ (context .nesting .depth < 4096) × (context .nesting .«match_split» < 4294967296) ⌝ }
     ensures { λ r. ⌜ Block-steps context binding «is_ref» r ⌝ }
 {
     let mut state = context;
@@ -28,15 +28,15 @@ pub fn block_steps(context: BodyContext, binding: usize, is_ref: bool) -> BodyCo
 
 // The same by value.
 pub fn block_steps_by_value(context: BodyContext, binding: usize, is_ref: bool) -> BodyContext
-    requires { ⌜ (context .depth < 4096) × (context .«match_split» < 4294967296) ⌝ }
+    requires { ⌜ (context .nesting .depth < 4096) × (context .nesting .«match_split» < 4294967296) ⌝ }
     ensures { λ r. ⌜ Block-steps context binding «is_ref» r ⌝ }
 {
-    let scope = context.enter_scope();
-    let begun = context.begin_block();
+    let scope = crate::by_value::enter_scope(context);
+    let begun = crate::by_value::begin_block(context);
     let marked = begun.set_ref(binding, is_ref);
-    let bound = marked.bind(binding);
-    let counted = bound.count_split();
-    counted.end_block(scope)
+    let bound = crate::by_value::bind(marked, binding);
+    let counted = crate::by_value::count_split(bound);
+    crate::by_value::end_block(counted, scope)
 }
 
 pub struct BothWays {
@@ -46,7 +46,7 @@ pub struct BothWays {
 
 // Both give one state.
 pub fn both_ways(context: BodyContext, binding: usize, is_ref: bool) -> BothWays
-    requires { ⌜ (context .depth < 4096) × (context .«match_split» < 4294967296) ⌝ }
+    requires { ⌜ (context .nesting .depth < 4096) × (context .nesting .«match_split» < 4294967296) ⌝ }
     ensures { λ r. ⌜ r .lent ≡ r .«by_value» ⌝ }
 {
     let lent = block_steps(context, binding, is_ref);

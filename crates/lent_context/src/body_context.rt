@@ -1,34 +1,35 @@
-// Each step copies the state, calls the step by value of the crate `context`, and stores what that returns.
+// Each step copies the state, calls the step by value, and stores what that returns.
 use context::body_context::BodyContext;
 ghost use mathlib.Core.Path.{_≡_};
 ghost use Prim.Native.Nat.{_<_};
 ghost use Rattle.emits.specs.Marks.{set-of};
-ghost use Rattle.context.specs.Context.{Set-ref, Bind, deeper, closed, counted};
+ghost use Rattle.context.specs.Context.{Set-ref};
+ghost use Rattle.lent_context.specs.Steps.{Bind, begun, closed, numbered};
 
 // codegen.rs 128: the bindings that have names outside. The state is as it was.
 pub fn enter_scope(context: &mut BodyContext) -> [bool; 1024]
     ensures { λ r. ⌜ (set-of r ≡ set-of (now (context .entry) .«is_bound»)) × (now (context .exit) ≡ now (context .entry)) ⌝ }
 {
     let was = *context;
-    was.enter_scope()
+    crate::by_value::enter_scope(was)
 }
 
 // codegen.rs 133.
 pub fn begin_block(context: &mut BodyContext)
-    requires { ⌜ now context .depth < 4096 ⌝ }
-    ensures { λ _. ⌜ now (context .exit) ≡ deeper (now (context .entry)) ⌝ }
+    requires { ⌜ now context .nesting .depth < 4096 ⌝ }
+    ensures { λ _. ⌜ now (context .exit) ≡ begun (now (context .entry)) ⌝ }
 {
     let was = *context;
-    *context = was.begin_block();
+    *context = crate::by_value::begin_block(was);
 }
 
 // codegen.rs 138: the bindings of the scope alone have names; those that are references stay so.
 pub fn end_block(context: &mut BodyContext, scope: [bool; 1024])
-    requires { ⌜ 0 < now context .depth ⌝ }
+    requires { ⌜ 0 < now context .nesting .depth ⌝ }
     ensures { λ _. ⌜ now (context .exit) ≡ closed (now (context .entry)) scope ⌝ }
 {
     let was = *context;
-    *context = was.end_block(scope);
+    *context = crate::by_value::end_block(was, scope);
 }
 
 // codegen.rs 152.
@@ -44,14 +45,14 @@ pub fn bind(context: &mut BodyContext, binding: usize)
     ensures { λ _. ⌜ Bind (now (context .entry)) binding (now (context .exit)) ⌝ }
 {
     let was = *context;
-    *context = was.bind(binding);
+    *context = crate::by_value::bind(was, binding);
 }
 
 // codegen.rs 885: a closure has been numbered.
 pub fn count_split(context: &mut BodyContext)
-    requires { ⌜ now context .«match_split» < 4294967296 ⌝ }
-    ensures { λ _. ⌜ now (context .exit) ≡ counted (now (context .entry)) ⌝ }
+    requires { ⌜ now context .nesting .«match_split» < 4294967296 ⌝ }
+    ensures { λ _. ⌜ now (context .exit) ≡ numbered (now (context .entry)) ⌝ }
 {
     let was = *context;
-    *context = was.count_split();
+    *context = crate::by_value::count_split(was);
 }

@@ -27,7 +27,8 @@ use denote.Triple.Table.{entered, cited}
 use denote.Triple.Walked.{says, needs, hasOf, goes-dropped, ends-at, walked, walk-meets}
 use denote.Exit.{yes}
 use Rattle.emits.specs.Marks.{set-of}
-use Rattle.context.specs.Context.{Set-ref, Bind, deeper, closed, counted}
+use Rattle.context.specs.Context.{Set-ref}
+use Rattle.lent_context.specs.Steps.{Bind, begun, closed, numbered}
 use Rattle.context.specs.declared.body_context.BodyContext.{BodyContext}
 use Rattle.context.proofs.body_context.BodyContext as T
 use Rattle.context.proofs.body_context.BodyContext.Laws as T′
@@ -81,7 +82,7 @@ block-steps-spec 𝓤 H 𝓜 𝓖 𝓡 =
     entered 𝓤 H (tripleOf 𝓤 H A f.signature (f.spec 𝓤 H A (𝓜 .mem) (𝓡 .run))) (tables 𝓤 H 𝓜 𝓡 code.env .C) (tables 𝓤 H 𝓜 𝓡 code.env .Λ) #f code.function (code.unfolded 𝓤 H 𝓜 𝓡)
     (walk-meets 𝓤 H A f.ended (dropped ps ks) W (goes-dropped 𝓤 H A W 0 (plain (λ _. State)) yes (λ κs x f. refl), (goes-dropped 𝓤 H A W 0 (plain (λ _. usize)) yes (λ κs x f. refl), (goes-dropped 𝓤 H A W 0 (plain (λ _. bool)) yes (λ κs x f. refl), tt))) clauses runs (WpFn-mono 𝓤 H (W .laws) 𝓣 code.function)
     (walked 𝓤 H A f.ended (dropped ps ks) clauses runs (λ _. (LL.vals T.the-type T′.the-laws, (uint-vals w64, (bool-vals, tt)))) (λ _. (LL.tells T.the-type T′.the-laws, (uint-tells w64, (bool-tells, tt)))) (λ κs qs bounds a g are.
-    needs 𝓤 ((a .0 .depth < 4096) × (a .0 .«match_split» < 4294967296)) _ (λ ok.
+    needs 𝓤 ((a .0 .nesting .depth < 4096) × (a .0 .nesting .«match_split» < 4294967296)) _ (λ ok.
     let h = a .0 in
     let n = a .1 .0 in
     let i = a .1 .1 .0 in
@@ -92,20 +93,20 @@ block-steps-spec 𝓤 H 𝓜 𝓖 𝓡 =
     assigns ! (of-opd ! (load ! (from ! (stop !)) (look ! 22 refl))) (from ! (stop !)) (init ! 16 refl (typed 𝓤 H A W h _ (are .0))) $ move ! (16 ∷ 12 ∷ 14 ∷ []) $
     lends ! fm [] Marks tt (enter-scope.clauses 𝓤 H A (𝓜 .mem) (𝓡 .run)) (λ _. tt) (λ _. tt) h (are .0) (λ x r. (set-of x ≡ set-of (h .«is_bound»)) × (r ≡ h)) (record { ghost = λ _ _. tt; owned-rest = λ _. id⊢ 𝓤 (emp 𝓤); asks = λ _ _. id⊢ 𝓤 (emp 𝓤); says = λ _ _ _ _ _. id⊢ 𝓤 _ }) (cited 𝓤 H (tripleOf 𝓤 H A enter-scope.signature (enter-scope.spec 𝓤 H A (𝓜 .mem) (𝓡 .run))) 𝓜 𝓡 code.env #enter-scope enter-scope-def.routine code.calls-lent-context·body-context·enter-scope (enter-scope-thm.met 𝓤 H 𝓜 𝓖 𝓡))
     refl refl refl (tt, tt) (marks-typed 𝓤 H A W) (λ _ _ _. no-more !) (λ scope u₁ h₁ is-scope is₁ e₁. move ! (0 ∷ 11 ∷ 13 ∷ []) $
-    lends ! fm [] unit tt (begin-block.clauses 𝓤 H A (𝓜 .mem) (𝓡 .run)) (λ _. tt) (λ _. tt) h₁ is₁ (λ _ r. r ≡ deeper h₁) (record { ghost = λ _ _. tt; owned-rest = λ _. id⊢ 𝓤 (emp 𝓤); asks = λ _ _. factI 𝓤 (h₁ .depth < 4096) (emp 𝓤) (subst (λ (x : BodyContext). x .depth < 4096) (sym (e₁ .1)) (ok .0)); says = λ _ _ _ _ _. id⊢ 𝓤 _ }) (cited 𝓤 H (tripleOf 𝓤 H A begin-block.signature (begin-block.spec 𝓤 H A (𝓜 .mem) (𝓡 .run))) 𝓜 𝓡 code.env #begin-block begin-block-def.routine code.calls-lent-context·body-context·begin-block (begin-block-thm.met 𝓤 H 𝓜 𝓖 𝓡))
-    refl refl refl (tt, tt) (unit-typed 𝓤 H A W) (λ _ _ _. no-more !) (λ _ u₂ h₂ _ is₂ e₂. let begun = e₂ ∙ ap deeper (e₁ .1) in forget ! 2 refl $ move ! (0 ∷ 11 ∷ 2 ∷ []) $
+    lends ! fm [] unit tt (begin-block.clauses 𝓤 H A (𝓜 .mem) (𝓡 .run)) (λ _. tt) (λ _. tt) h₁ is₁ (λ _ r. r ≡ begun h₁) (record { ghost = λ _ _. tt; owned-rest = λ _. id⊢ 𝓤 (emp 𝓤); asks = λ _ _. factI 𝓤 (h₁ .nesting .depth < 4096) (emp 𝓤) (subst (λ (x : BodyContext). x .nesting .depth < 4096) (sym (e₁ .1)) (ok .0)); says = λ _ _ _ _ _. id⊢ 𝓤 _ }) (cited 𝓤 H (tripleOf 𝓤 H A begin-block.signature (begin-block.spec 𝓤 H A (𝓜 .mem) (𝓡 .run))) 𝓜 𝓡 code.env #begin-block begin-block-def.routine code.calls-lent-context·body-context·begin-block (begin-block-thm.met 𝓤 H 𝓜 𝓖 𝓡))
+    refl refl refl (tt, tt) (unit-typed 𝓤 H A W) (λ _ _ _. no-more !) (λ _ u₂ h₂ _ is₂ e₂. let opened = e₂ ∙ ap begun (e₁ .1) in forget ! 2 refl $ move ! (0 ∷ 11 ∷ 2 ∷ []) $
     lends ! fm (plain (λ _. usize) ∷ plain (λ _. bool) ∷ []) unit (yes, (yes, tt)) (set-ref.clauses 𝓤 H A (𝓜 .mem) (𝓡 .run)) (λ _. (n, (i, tt))) (λ _. (vint w64 n ∷ [], (vbool i ∷ [], tt))) h₂ is₂ (λ _ r. Set-ref h₂ n i r) (record { ghost = λ _ _. tt; owned-rest = λ _. owns-make 𝓤 H A (usize ∷ bool ∷ []) (Ises (usize ∷ bool ∷ [])) (uint-makes 𝓤 H A W w64, (bool-makes 𝓤 H A W, tt)) (n, (i, tt)) (vint w64 n ∷ [], (vbool i ∷ [], tt)) (are .1); asks = λ _ _. id⊢ 𝓤 (emp 𝓤); says = λ _ _ _ _ _. id⊢ 𝓤 _ }) (cited 𝓤 H (tripleOf 𝓤 H A set-ref.signature (set-ref.spec 𝓤 H A (𝓜 .mem) (𝓡 .run))) 𝓜 𝓡 code.env #set-ref set-ref-def.routine code.calls-lent-context·body-context·set-ref (set-ref-thm.met 𝓤 H 𝓜 𝓖 𝓡))
     refl refl refl (tt, tt) (unit-typed 𝓤 H A W) (λ _ _ _. and-then ! (load ! (from ! (stop !)) (look ! 21 refl)) (and-then ! (load ! (from ! (stop !)) (look ! 19 refl)) (no-more !))) (λ _ u₃ h₃ _ is₃ e₃. forget ! 2 refl $ move ! (0 ∷ 10 ∷ 2 ∷ []) $
     lends ! fm (plain (λ _. usize) ∷ []) unit (yes, tt) (bind.clauses 𝓤 H A (𝓜 .mem) (𝓡 .run)) (λ _. (n, tt)) (λ _. (vint w64 n ∷ [], tt)) h₃ is₃ (λ _ r. Bind h₃ n r) (record { ghost = λ _ _. tt; owned-rest = λ _. owns-make 𝓤 H A (usize ∷ []) (Ises (usize ∷ [])) (uint-makes 𝓤 H A W w64, tt) (n, tt) (vint w64 n ∷ [], tt) (are .1 .0, tt); asks = λ _ _. id⊢ 𝓤 (emp 𝓤); says = λ _ _ _ _ _. id⊢ 𝓤 _ }) (cited 𝓤 H (tripleOf 𝓤 H A bind.signature (bind.spec 𝓤 H A (𝓜 .mem) (𝓡 .run))) 𝓜 𝓡 code.env #bind bind-def.routine code.calls-lent-context·body-context·bind (bind-thm.met 𝓤 H 𝓜 𝓖 𝓡))
     refl refl refl (tt, tt) (unit-typed 𝓤 H A W) (λ _ _ _. and-then ! (load ! (from ! (stop !)) (look ! 21 refl)) (no-more !)) (λ _ u₄ h₄ _ is₄ e₄. forget ! 2 refl $ move ! (0 ∷ 9 ∷ 2 ∷ []) $
-    lends ! fm [] unit tt (count-split.clauses 𝓤 H A (𝓜 .mem) (𝓡 .run)) (λ _. tt) (λ _. tt) h₄ is₄ (λ _ r. r ≡ counted h₄) (record { ghost = λ _ _. tt; owned-rest = λ _. id⊢ 𝓤 (emp 𝓤); asks = λ _ _. factI 𝓤 (h₄ .«match_split» < 4294967296) (emp 𝓤) (subst (λ (x : ℕ). x < 4294967296) (sym (split-kept h begun e₃ e₄)) (ok .1)); says = λ _ _ _ _ _. id⊢ 𝓤 _ }) (cited 𝓤 H (tripleOf 𝓤 H A count-split.signature (count-split.spec 𝓤 H A (𝓜 .mem) (𝓡 .run))) 𝓜 𝓡 code.env #count-split count-split-def.routine code.calls-lent-context·body-context·count-split (count-split-thm.met 𝓤 H 𝓜 𝓖 𝓡))
+    lends ! fm [] unit tt (count-split.clauses 𝓤 H A (𝓜 .mem) (𝓡 .run)) (λ _. tt) (λ _. tt) h₄ is₄ (λ _ r. r ≡ numbered h₄) (record { ghost = λ _ _. tt; owned-rest = λ _. id⊢ 𝓤 (emp 𝓤); asks = λ _ _. factI 𝓤 (h₄ .nesting .«match_split» < 4294967296) (emp 𝓤) (subst (λ (x : ℕ). x < 4294967296) (sym (split-kept h opened e₃ e₄)) (ok .1)); says = λ _ _ _ _ _. id⊢ 𝓤 _ }) (cited 𝓤 H (tripleOf 𝓤 H A count-split.signature (count-split.spec 𝓤 H A (𝓜 .mem) (𝓡 .run))) 𝓜 𝓡 code.env #count-split count-split-def.routine code.calls-lent-context·body-context·count-split (count-split-thm.met 𝓤 H 𝓜 𝓖 𝓡))
     refl refl refl (tt, tt) (unit-typed 𝓤 H A W) (λ _ _ _. no-more !) (λ _ u₅ h₅ _ is₅ e₅. forget ! 2 refl $ move ! (0 ∷ 8 ∷ 2 ∷ []) $
-    lends ! fm (ArrayOf (plain (λ _. bool)) (λ _. tt) 1024 ∷ []) unit (yes, tt) (end-block.clauses 𝓤 H A (𝓜 .mem) (𝓡 .run)) (λ _. (scope, tt)) (λ _. (u₁ ∷ [], tt)) h₅ is₅ (λ _ r. r ≡ closed h₅ scope) (record { ghost = λ _ _. tt; owned-rest = λ _. owns-make 𝓤 H A (Marks ∷ []) (Ises (Marks ∷ [])) (array-makes 𝓤 H A W bool (bool-makes 𝓤 H A W) 1024, tt) (scope, tt) (u₁ ∷ [], tt) (is-scope, tt); asks = λ _ _. factI 𝓤 (0 < h₅ .depth) (emp 𝓤) (subst (λ (x : ℕ). 0 < x) (sym (one-deeper h begun e₃ e₄ e₅)) (omega arith)); says = λ _ _ _ _ _. id⊢ 𝓤 _ }) (cited 𝓤 H (tripleOf 𝓤 H A end-block.signature (end-block.spec 𝓤 H A (𝓜 .mem) (𝓡 .run))) 𝓜 𝓡 code.env #end-block end-block-def.routine code.calls-lent-context·body-context·end-block (end-block-thm.met 𝓤 H 𝓜 𝓖 𝓡))
+    lends ! fm (ArrayOf (plain (λ _. bool)) (λ _. tt) 1024 ∷ []) unit (yes, tt) (end-block.clauses 𝓤 H A (𝓜 .mem) (𝓡 .run)) (λ _. (scope, tt)) (λ _. (u₁ ∷ [], tt)) h₅ is₅ (λ _ r. r ≡ closed h₅ scope) (record { ghost = λ _ _. tt; owned-rest = λ _. owns-make 𝓤 H A (Marks ∷ []) (Ises (Marks ∷ [])) (array-makes 𝓤 H A W bool (bool-makes 𝓤 H A W) 1024, tt) (scope, tt) (u₁ ∷ [], tt) (is-scope, tt); asks = λ _ _. factI 𝓤 (0 < h₅ .nesting .depth) (emp 𝓤) (subst (λ (x : ℕ). 0 < x) (sym (one-deeper h opened e₃ e₄ e₅)) (omega arith)); says = λ _ _ _ _ _. id⊢ 𝓤 _ }) (cited 𝓤 H (tripleOf 𝓤 H A end-block.signature (end-block.spec 𝓤 H A (𝓜 .mem) (𝓡 .run))) 𝓜 𝓡 code.env #end-block end-block-def.routine code.calls-lent-context·body-context·end-block (end-block-thm.met 𝓤 H 𝓜 𝓖 𝓡))
     refl refl refl (tt, tt) (unit-typed 𝓤 H A W) (λ _ _ _. and-then ! (load ! (from ! (stop !)) (look ! 9 refl)) (no-more !)) (λ _ u₆ h₆ _ is₆ e₆.
     -- [_4; _12; _7; _11; _10; _9; _8; _6; _5; …; and eight more; _3; …; _2; …; _1; …; room for _0; …]
     assigns ! (of-opd ! (load ! (from ! (stop !)) (look ! 0 refl))) (from ! (stop !)) (init ! 24 refl (typed 𝓤 H A W h₆ _ is₆)) $ returns ! (look ! 24 refl) $
     forget ! 0 refl $ forget ! 1 refl $ forget ! 2 refl $ forget ! 3 refl $ forget ! 4 refl $ forget ! 5 refl $ forget ! 6 refl $ forget ! 7 refl $ forget ! 8 refl $ forget ! 18 refl $ forget ! 20 refl $ forget ! 22 refl $ forget ! 24 refl $
     move ! (24 ∷ 25 ∷ 22 ∷ 23 ∷ 20 ∷ 21 ∷ 18 ∷ 19 ∷ 0 ∷ 17 ∷ 8 ∷ 16 ∷ 7 ∷ 15 ∷ 2 ∷ 14 ∷ 6 ∷ 13 ∷ 5 ∷ 12 ∷ 4 ∷ 11 ∷ 3 ∷ 10 ∷ 1 ∷ 9 ∷ []) $ free1 ! $ free1 ! $ free1 ! $ free1 ! $ free1 ! $ free1 ! $ free1 ! $ free1 ! $ free1 ! $ free1 ! $ free1 ! $ free1 ! $ free1 ! $ free0 ! $
     suffices ! _ (ends-at 𝓤 H A f.ended (dropped ps ks) clauses W ((tt, tt, tt, a, (machine h ∷ [], (vint w64 n ∷ [], (vbool i ∷ [], tt)))), g) (machine h₆) h₆ (tt, (tt, (tt, tt))) (all-fit tt ps ks a (tt, (tt, (tt, tt))))) $
-    says ! (in-a-row h begun e₃ e₄ e₅ (e₁ .0) e₆) $ owned ! State (Is State) (LL.makes T.the-type T′.the-plain 𝓤 H A) h₆ _ is₆ $
+    says ! (in-a-row h opened e₃ e₄ e₅ (e₁ .0) e₆) $ owned ! State (Is State) (LL.makes T.the-type T′.the-plain 𝓤 H A) h₆ _ is₆ $
     use0 W (‵ (hasOf tt ps ks (dropped ps ks) a (tt, (tt, (tt, tt))) (machine h ∷ [], (vint w64 n ∷ [], (vbool i ∷ [], tt))))) (none-had 𝓤 H A tt ps ks a (tt, (tt, (tt, tt))) (machine h ∷ [], (vint w64 n ∷ [], (vbool i ∷ [], tt)))) $ nothing ! $ done !)))))))))))))))))))))))

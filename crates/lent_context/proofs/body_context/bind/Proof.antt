@@ -20,13 +20,13 @@ use denote.Triple.Spec.{tripleOf}
 use denote.Triple.Table.{entered, cited}
 use denote.Triple.Walked.{goes-dropped}
 use denote.Exit.{yes}
-use Rattle.context.specs.Context.{Bind}
+use Rattle.lent_context.specs.Steps.{Bind}
 use Rattle.context.proofs.body_context.BodyContext as T
 use Rattle.context.proofs.body_context.BodyContext.Laws as T′
-use Rattle.context.proofs.body_context.BodyContext.bind as g
-use Rattle.context.proofs.body_context.BodyContext.bind.Symbol as g-def
-use Rattle.context.proofs.body_context.BodyContext.bind.Symbol.{name as #g}
-use Rattle.context.proofs.body_context.BodyContext.bind.Met as g-thm
+use Rattle.lent_context.proofs.by_value.bind as g
+use Rattle.lent_context.proofs.by_value.bind.Symbol as g-def
+use Rattle.lent_context.proofs.by_value.bind.Symbol.{name as #g}
+use Rattle.lent_context.proofs.by_value.bind.Met as g-thm
 use Rattle.lent_context.proofs.Lent.{State, machine, gives, changed, ends, meets}
 use Rattle.lent_context.proofs.body_context.bind.Key.{name as #f}
 use Rattle.lent_context.proofs.body_context.bind as f
@@ -40,7 +40,7 @@ bind-spec 𝓤 H 𝓜 𝓖 𝓡 =
     let W = givenOf 𝓤 H 𝓜 𝓖 in
     let 𝓣 = tablesOf 𝓤 H 𝓜 (tables 𝓤 H 𝓜 𝓡 code.env) in
     let fm = fmOf 𝓤 H (W .laws) 𝓣 in
-    let known = cited 𝓤 H (tripleOf 𝓤 H A g.signature (g.spec 𝓤 H A (𝓜 .mem) (𝓡 .run))) 𝓜 𝓡 code.env #g g-def.routine code.calls-context·body-context·BodyContext·bind (g-thm.met 𝓤 H 𝓜 𝓖 𝓡) in
+    let known = cited 𝓤 H (tripleOf 𝓤 H A g.signature (g.spec 𝓤 H A (𝓜 .mem) (𝓡 .run))) 𝓜 𝓡 code.env #g g-def.routine code.calls-lent-context·by-value·bind (g-thm.met 𝓤 H 𝓜 𝓖 𝓡) in
     entered 𝓤 H (tripleOf 𝓤 H A f.signature (f.spec 𝓤 H A (𝓜 .mem) (𝓡 .run))) (tables 𝓤 H 𝓜 𝓡 code.env .C) (tables 𝓤 H 𝓜 𝓡 code.env .Λ) #f code.function (code.unfolded 𝓤 H 𝓜 𝓡)
     (meets (plain (λ _. usize) ∷ []) unit (yes, tt) 𝓤 H A W (f.clauses 𝓤 H A (𝓜 .mem) (𝓡 .run)) code.function 𝓣 (λ _. (uint-vals w64, tt)) (λ _. (uint-tells w64, tt)) (goes-dropped 𝓤 H A W 1 (plain (λ _. usize)) yes (λ κs x f. refl), tt) (λ κ q b o γ h a _ are. via 𝓤 _ (fst∗ 𝓤 _ (emp 𝓤)) (
     qed W (‵ (fobs γ (State .coded .code h)) ∷ ‵ (fbor κ (Body (mem State) b o γ)) ∷ ‵ (flft κ q) ∷ []) ∵ enter ! (𝓣 .C) (𝓣 .Λ) code.function (vptr b o ∷ (vint w64 (a .0) ∷ [])) _ $

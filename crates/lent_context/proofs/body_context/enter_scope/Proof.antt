@@ -22,10 +22,10 @@ use denote.Exit.{yes}
 use Rattle.emits.specs.Marks.{set-of}
 use Rattle.context.proofs.body_context.BodyContext as T
 use Rattle.context.proofs.body_context.BodyContext.Laws as T′
-use Rattle.context.proofs.body_context.BodyContext.enter_scope as g
-use Rattle.context.proofs.body_context.BodyContext.enter_scope.Symbol as g-def
-use Rattle.context.proofs.body_context.BodyContext.enter_scope.Symbol.{name as #g}
-use Rattle.context.proofs.body_context.BodyContext.enter_scope.Met as g-thm
+use Rattle.lent_context.proofs.by_value.enter_scope as g
+use Rattle.lent_context.proofs.by_value.enter_scope.Symbol as g-def
+use Rattle.lent_context.proofs.by_value.enter_scope.Symbol.{name as #g}
+use Rattle.lent_context.proofs.by_value.enter_scope.Met as g-thm
 use Rattle.lent_context.proofs.Lent.{State, Marks, machine, marks-typed, gives, copied, called, ends, meets}
 use Rattle.lent_context.proofs.body_context.enter_scope.Key.{name as #f}
 use Rattle.lent_context.proofs.body_context.enter_scope as f
@@ -39,7 +39,7 @@ enter-scope-spec 𝓤 H 𝓜 𝓖 𝓡 =
     let W = givenOf 𝓤 H 𝓜 𝓖 in
     let 𝓣 = tablesOf 𝓤 H 𝓜 (tables 𝓤 H 𝓜 𝓡 code.env) in
     let fm = fmOf 𝓤 H (W .laws) 𝓣 in
-    let known = cited 𝓤 H (tripleOf 𝓤 H A g.signature (g.spec 𝓤 H A (𝓜 .mem) (𝓡 .run))) 𝓜 𝓡 code.env #g g-def.routine code.calls-context·body-context·BodyContext·enter-scope (g-thm.met 𝓤 H 𝓜 𝓖 𝓡) in
+    let known = cited 𝓤 H (tripleOf 𝓤 H A g.signature (g.spec 𝓤 H A (𝓜 .mem) (𝓡 .run))) 𝓜 𝓡 code.env #g g-def.routine code.calls-lent-context·by-value·enter-scope (g-thm.met 𝓤 H 𝓜 𝓖 𝓡) in
     entered 𝓤 H (tripleOf 𝓤 H A f.signature (f.spec 𝓤 H A (𝓜 .mem) (𝓡 .run))) (tables 𝓤 H 𝓜 𝓡 code.env .C) (tables 𝓤 H 𝓜 𝓡 code.env .Λ) #f code.function (code.unfolded 𝓤 H 𝓜 𝓡)
     (meets [] Marks tt 𝓤 H A W (f.clauses 𝓤 H A (𝓜 .mem) (𝓡 .run)) code.function 𝓣 (λ _. tt) (λ _. tt) tt (λ κ q b o γ h a _ _. via 𝓤 _ (fst∗ 𝓤 _ (emp 𝓤)) (
     qed W (‵ (fobs γ (State .coded .code h)) ∷ ‵ (fbor κ (Body (mem State) b o γ)) ∷ ‵ (flft κ q) ∷ []) ∵ enter ! (𝓣 .C) (𝓣 .Λ) code.function (vptr b o ∷ []) _ $
