@@ -30,10 +30,3 @@ pub fn insert(set: &mut [bool], binding: usize)
         set[binding] = true;
     }
 }
-
-// A scope is entered with a copy of the set, and left by restoring it: `BodyContext::enter_scope`, codegen.rs 128.
-pub fn enter_scope(bound: &[bool; 1024]) -> [bool; 1024]
-    ensures { λ r. ⌜ set-of r ≡ set-of (now (bound .entry)) ⌝ }
-{
-    *bound
-}

@@ -3,11 +3,8 @@ use mathlib.Core.Path.{_≡_, refl, sym, ap, _∙_}
 use mathlib.Core.Bool.{Bool, true, false, cond}
 use mathlib.Core.Option.{Option}
 use mathlib.Core.List.{List, [], _∷_}
-use Prim.Native.Nat.{ℕ, zero, suc, _+_, _*_}
-use native.Mathlib.Omega.{arith}
-use lib.Dec.{ltb}
+use Prim.Native.Nat.{ℕ, suc, _+_, _*_}
 use lib.ListN.{length}
-use borrow.Author.Tests.{lt-ltb}
 use Rattle.text.specs.Codes.{codes}
 use Rattle.text.specs.Sink.{spaces, Puts}
 use Rattle.literal.specs.Quote.{quoted}
@@ -17,7 +14,7 @@ use Rattle.codegen.specs.Writer.{Marks, contains, said, say, ask}
 use Rattle.codegen.specs.ReturnKind.{ReturnKind, by-return-kind}
 use Rattle.codegen.specs.ReturnKind as kind
 use Rattle.codegen.specs.Expr.{cloned}
-use Rattle.codegen.specs.Block.{Body, Frame, Line, words, closures, iter-overflow-action, log-lines, return-line, returning}
+use Rattle.codegen.specs.Block.{Body, Frame, Line, words, closures, log-lines, return-line, returning}
 use Rattle.emits.specs.Emits.{Emits, Shows, emits-ask}
 use Rattle.emits.specs.Pieces.{shows-none, shows-fix, shows-pos, shows-quoted-sym, shows-quoted-pos}
 use Rattle.consts.specs.EmitsLaws.{emits-plain}
@@ -74,17 +71,6 @@ module _ {e : ℕ} {env : Environment} {d : ℕ} {o : List ℕ} {at : ℕ} {n : 
 -- what stands for a kind of return
 pub shows-kind : {e : ℕ} {env : Environment} {d : ℕ} {o : List ℕ} {at : ℕ} {o₁ : List ℕ} {at₁ : ℕ} {x y : Piece} → x ≡ y → Shows e env d (y ∷ []) o at o₁ at₁ → Shows e env d (x ∷ []) o at o₁ at₁
 shows-kind h p = rw h p
-
-bool-differs : (b : Bool) → b ≡ true → b ≡ false → ⊥
-bool-differs b h g = let z : _≡_ {A = ℕ} 0 1 = cc in omega arith
-
-pub action-in : (b : Bool) (k : ℕ) → b ≡ ltb 0 k → b ≡ true → iter-overflow-action k ≡ codes "return true;"
-action-in b zero h g = absurd (bool-differs b g h)
-action-in b (suc k) h g = refl
-
-pub action-out : (b : Bool) (k : ℕ) → b ≡ ltb 0 k → b ≡ false → iter-overflow-action k ≡ codes "return;"
-action-out b zero h g = refl
-action-out b (suc k) h g = absurd (bool-differs b (h ∙ lt-ltb 0 (suc k) (omega arith)) g)
 
 -- the limit, by the kind
 module _ {e : ℕ} {env : Environment} {i : Option ℕ} {fs : List Frame} {o : List ℕ} {at : ℕ} {n : ℕ} {q : Marks} where

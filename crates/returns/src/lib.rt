@@ -10,8 +10,7 @@ ghost use Rattle.plan.specs.Plan.{Environment};
 ghost use Rattle.emits.specs.Emits.{Emits};
 ghost use Rattle.emits.specs.Marks.{set-of};
 ghost use Rattle.step_parts.specs.Facts.{Facts};
-ghost use Rattle.codegen.specs.Block.{Body, Frame, closures, iter-overflow-action, log-lines, return-line, returning};
-ghost use Rattle.text.specs.Sink.{Puts};
+ghost use Rattle.codegen.specs.Block.{Body, Frame, closures, log-lines, return-line, returning};
 ghost use Rattle.codegen.specs.Piece.{fix};
 ghost use Rattle.codegen.specs.Writer.{Marks, ask};
 ghost use Rattle.codegen.specs.Expr.{cloned};
@@ -21,6 +20,7 @@ ghost use Rattle.sema.specs.Holds.{Holds};
 ghost use Rattle.sema.specs.Signature.{return-kind-told};
 ghost use Rattle.step_parts.specs.Leads.{Lines-lead};
 ghost use Rattle.returns.specs.ReturnLines.{rule-lines, overflow-lines};
+use context::block::put_iter_overflow_action;
 use emits::Written;
 use emits::stablemapset::contains;
 use expr::emit_expr;
@@ -153,22 +153,13 @@ fn return_line(
     Written { at: at, odd: w.odd }
 }
 
-// codegen.rs 891, `iter_overflow_action`: inside a closure the function around it has to return too.
-fn put_action(out: &mut [u8], at: usize, end: usize, in_closure: bool) -> usize
-    ensures { λ a. ⌜ ((k : ℕ) → «in_closure» ≡ ltb 0 k → Puts end (iter-overflow-action k) (now (out .entry)) at (now (out .exit)) a) ⌝ }
-{
-    if in_closure {
-        return put_bytes(out, at, end, b"return true;");
-    }
-    put_bytes(out, at, end, b"return;")
-}
-
+// codegen.rs 891: inside a closure the function around it has to return too.
 fn put_overflow(out: &mut [u8], at: usize, end: usize, depth: usize, in_closure: bool) -> usize
     ensures { λ a. ⌜ ((env : Environment) (i : ℕ) (fs : List Frame) (n : ℕ) (q : Marks) → depth ≡ closures fs + suc (length fs) → «in_closure» ≡ ltb 0 (closures fs) → Lines-lead end env (some i) fs (λ x. overflow-lines) (λ x. x) (now (out .entry)) at n q (now (out .exit)) a n q) ⌝ }
 {
     let at = put_indent(out, at, end, depth);
     let at = put_bytes(out, at, end, b"if returns.len() >= MAX_ISLE_RETURNS { ");
-    let at = put_action(out, at, end, in_closure);
+    let at = put_iter_overflow_action(out, at, end, in_closure);
     let at = put_bytes(out, at, end, b" }");
     put_byte(out, at, end, 10)
 }
