@@ -2,13 +2,11 @@
 use context::body_context::BodyContext;
 ghost use mathlib.Core.Path.{_≡_};
 ghost use Prim.Native.Nat.{_<_};
-ghost use Rattle.emits.specs.Marks.{set-of};
-ghost use Rattle.context.specs.Context.{Set-ref};
-ghost use Rattle.lent_context.specs.Steps.{Bind, begun, closed, numbered};
+ghost use Rattle.lent_context.specs.Steps.{Entered, begun, closed, Marked, Named, numbered};
 
 // codegen.rs 128: the bindings that have names outside. The state is as it was.
 pub fn enter_scope(context: &mut BodyContext) -> [bool; 1024]
-    ensures { λ r. ⌜ (set-of r ≡ set-of (now (context .entry) .«is_bound»)) × (now (context .exit) ≡ now (context .entry)) ⌝ }
+    ensures { λ r. ⌜ Entered (now (context .entry)) r (now (context .exit)) ⌝ }
 {
     let was = *context;
     crate::by_value::enter_scope(was)
@@ -34,7 +32,7 @@ pub fn end_block(context: &mut BodyContext, scope: [bool; 1024])
 
 // codegen.rs 152.
 pub fn set_ref(context: &mut BodyContext, binding: usize, is_ref: bool)
-    ensures { λ _. ⌜ Set-ref (now (context .entry)) binding «is_ref» (now (context .exit)) ⌝ }
+    ensures { λ _. ⌜ Marked (now (context .entry)) binding «is_ref» (now (context .exit)) ⌝ }
 {
     let was = *context;
     *context = was.set_ref(binding, is_ref);
@@ -42,7 +40,7 @@ pub fn set_ref(context: &mut BodyContext, binding: usize, is_ref: bool)
 
 // `is_bound.insert`.
 pub fn bind(context: &mut BodyContext, binding: usize)
-    ensures { λ _. ⌜ Bind (now (context .entry)) binding (now (context .exit)) ⌝ }
+    ensures { λ _. ⌜ Named (now (context .entry)) binding (now (context .exit)) ⌝ }
 {
     let was = *context;
     *context = crate::by_value::bind(was, binding);
