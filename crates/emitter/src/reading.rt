@@ -19,10 +19,12 @@ ghost use Rattle.rows.specs.View.{nth, type-of, variant-of, term-of, binding-of
 ghost use Rattle.layout.specs.View.{cut, cuts, text-of};
 ghost use Rattle.view.specs.Tables.{table-rows};
 ghost use Rattle.view.specs.Told.{type-told, variant-told, term-told, binding-told, control-flow-told, control-flow-of, constraint-told, constraint-of};
-ghost use Rattle.reader.specs.Reading.{Says};
+ghost use Rattle.reader.specs.Reading.{Says, Keeps};
 ghost use Rattle.refusals.specs.Answered.{Indexes};
 
 // Reads a plan into the buffers and judges it by the refusals 1 to 10: its number, or how many rows and tables the buffers hold.
+// The refusals 1 and 2 change no buffer, and 3 not the index. Any other refusal leaves any numbers in them, as do the entries past
+// those that a held plan uses: `rows` up to the number of rows, `tables` up to the number of tables, `words` up to the end of the last row.
 pub fn read(
     plan: &[u8],
     words: &mut [u32; 65536],
@@ -30,7 +32,7 @@ pub fn read(
     tables: &mut [u32; 16385],
     index: &mut [u32; 1281],
 ) -> Laid
-    ensures { λ r. ⌜ Says (outcome (now (plan .entry))) (now (plan .entry)) r (now (words .exit)) (now (rows .exit)) (now (tables .exit)) × Indexes r (now (words .exit)) (now (rows .exit)) (now (tables .exit)) (now (index .exit)) ⌝ }
+    ensures { λ r. ⌜ Says (outcome (now (plan .entry))) (now (plan .entry)) r (now (words .exit)) (now (rows .exit)) (now (tables .exit)) × Indexes r (now (words .exit)) (now (rows .exit)) (now (tables .exit)) (now (index .exit)) × Keeps 2 r (now (words .entry)) (now (words .exit)) × Keeps 2 r (now (rows .entry)) (now (rows .exit)) × Keeps 2 r (now (tables .entry)) (now (tables .exit)) × Keeps 3 r (now (index .entry)) (now (index .exit)) ⌝ }
 {
     refusals::read(plan, words, rows, tables, index)
 }

@@ -40,3 +40,9 @@ Says (refused n) s (Refused m) words rows tables = m ≡ n
 Says (refused n) s (Held k j) words rows tables = ⊥
 Says (accepted p) s (Refused m) words rows tables = ⊥
 Says (accepted p) s (Held n j) words rows tables = Holding p s words rows tables n j
+
+-- A refusal up to the number m leaves a buffer as it was. Nothing else is said here: after a later refusal all entries of the buffer are
+-- free, and where a plan is held those past the ones that hold it: any numbers may stand there.
+abbrev pub Keeps : ℕ → Laid → List ℕ → List ℕ → Type 0
+Keeps m (Refused n) before after = n ≤ m → after ≡ before
+Keeps m (Held n j) before after = Unit {0}

@@ -1,9 +1,9 @@
 // A plan's bytes into the reader's buffers: refusals 1 to 3.
 use layout::Filled;
+use tokens::both;
 ghost use mathlib.Core.Path.{_≡_};
-ghost use mathlib.Core.Bool.{_&&_};
 ghost use Rattle.plan.specs.Refusal.{allowed, bytes-allowed};
-ghost use Rattle.reader.specs.Reading.{reading, Room, Says};
+ghost use Rattle.reader.specs.Reading.{reading, Room, Says, Keeps};
 
 // The number of a refusal, or how many rows and tables the buffers hold.
 pub enum Laid {
@@ -24,12 +24,6 @@ fn is_allowed(c: u8) -> bool
     c <= 126
 }
 
-fn both(a: bool, b: bool) -> bool
-    ensures { λ r. ⌜ r ≡ (a && b) ⌝ }
-{
-    if a { b } else { false }
-}
-
 // Whether each byte is allowed in a plan. All are looked at, since a loop without a way out takes many bytes at a time.
 fn all_allowed(s: &[u8]) -> bool
     ensures { λ r. ⌜ r ≡ bytes-allowed (now (s .entry)) ⌝ }
@@ -43,7 +37,8 @@ fn all_allowed(s: &[u8]) -> bool
     good
 }
 
-// Reads a plan into buffers that are long enough for it; `above` is used for the levels of blocks.
+// Reads a plan into buffers that are long enough for it; `above` is used for the levels of blocks. The refusals 1 and 2 change
+// nothing in them.
 pub fn read_into(
     plan: &[u8],
     words: &mut [u32],
@@ -52,7 +47,7 @@ pub fn read_into(
     above: &mut [u8],
 ) -> Laid
     requires { ⌜ Room (now plan) (now words) (now rows) (now tables) (now above) ⌝ }
-    ensures { λ r. ⌜ Says (reading (now (plan .entry))) (now (plan .entry)) r (now (words .exit)) (now (rows .exit)) (now (tables .exit)) ⌝ }
+    ensures { λ r. ⌜ Says (reading (now (plan .entry))) (now (plan .entry)) r (now (words .exit)) (now (rows .exit)) (now (tables .exit)) × Keeps 2 r (now (words .entry)) (now (words .exit)) × Keeps 2 r (now (rows .entry)) (now (rows .exit)) × Keeps 2 r (now (tables .entry)) (now (tables .exit)) ⌝ }
 {
     if 65536 < plan.len() {
         return Laid::Refused(1);

@@ -11,7 +11,7 @@ use borrow.Author.Tests.{ne-eqb, eqb-true}
 use Rattle.plan.specs.Plan.{Plan}
 use Rattle.plan.specs.Layout.{read}
 use Rattle.plan.specs.Refusal.{fits-length, bytes-allowed, Outcome, refused, accepted, judged, laid-out, outcome, number-of, refusal, within-most, all-exist, lengths-fit, sources-lower, returns-fit, matches-have-arms, loops-iterate}
-use Rattle.reader.specs.Reading.{of-layout, reading, Holding, Says}
+use Rattle.reader.specs.Reading.{of-layout, reading, Holding, Says, Keeps}
 use Rattle.reader.specs.declared.Laid.{Laid}
 use Rattle.reader.specs.declared.Laid.the-variants.{Refused, Held}
 use Rattle.view.specs.Tables.{plan-in}
@@ -22,7 +22,7 @@ use Rattle.view.proofs.Held.{plan-is}
 -- what the checks 4 to 10 make of a plan
 data Result (p : Plan) : Outcome → Type 0 where
   passes : Result p (accepted p)
-  turned : (n : ℕ) → 1 ≤ n → Result p (refused n)
+  turned : (n : ℕ) → 4 ≤ n → Result p (refused n)
 
 either : {p : Plan} (b : Bool) {x y : Outcome} → Result p x → Result p y → Result p (cond b x y)
 either true h g = h
@@ -85,6 +85,15 @@ module _ (s words rows tables : List ℕ) where
     by-outcome (accepted p) h =
         let e : r ≡ number-of (judged p) = q ∙ ap (λ (p : Plan). number-of (judged p)) (sym (plan-is words rows tables n j (h .index) (h .held) s) ∙ h .is) in
         rw e (by-result n j (result p) h)
+
+-- what a number of the checks 4 to 10 leaves of a buffer is free
+pub keeps-late : (m r n j : ℕ) (p : Plan) (before after : List ℕ) → m ≤ 3 → r ≡ number-of (judged p) → Keeps m (answered r n j) before after
+unfolding answered
+keeps-late m r n j p before after h e = rw e (by-checks (result p))
+  where
+    by-checks : {o : Outcome} → Result p o → Keeps m (cond (eqb (number-of o) 0) (Held n j) (Refused (number-of o))) before after
+    by-checks passes = tt
+    by-checks (turned k g) = rw (ne-eqb k 0 (λ q. absurd (omega arith))) (λ q. absurd (omega arith))
 
 -- the index of variants
 pub indexes-none : (n : ℕ) (words rows tables index : List ℕ) → Indexes (Refused n) words rows tables index

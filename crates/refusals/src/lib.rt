@@ -5,7 +5,7 @@ ghost use mathlib.Core.List.{List};
 ghost use Prim.Native.Nat.{ℕ, _+_, _≤_, _<_};
 ghost use lib.ListN.{length, take};
 ghost use Rattle.plan.specs.Refusal.{Outcome, judged, number-of, outcome, refusal};
-ghost use Rattle.reader.specs.Reading.{Room, Says};
+ghost use Rattle.reader.specs.Reading.{Room, Says, Keeps};
 ghost use Rattle.variants.specs.Index.{VariantIndex};
 ghost use Rattle.refusals.specs.Answered.{answered, Indexes};
 ghost use Rattle.view.specs.Tables.{plan-in};
@@ -36,7 +36,7 @@ fn told(number: u32, rows: usize, tables: usize) -> Laid
 }
 
 // Reads a plan into buffers that are long enough for it and judges it: the number of its lowest refusal, or how many rows and
-// tables the buffers hold; then its variants are indexed.
+// tables the buffers hold; then its variants are indexed. The refusals 1 and 2 change nothing in the buffers, and 3 nothing in the index.
 pub fn read_into(
     plan: &[u8],
     words: &mut [u32],
@@ -46,7 +46,7 @@ pub fn read_into(
     index: &mut [u32; 1281],
 ) -> Laid
     requires { ⌜ Room (now plan) (now words) (now rows) (now tables) (now above) ⌝ }
-    ensures { λ r. ⌜ Says (outcome (now (plan .entry))) (now (plan .entry)) r (now (words .exit)) (now (rows .exit)) (now (tables .exit)) × Indexes r (now (words .exit)) (now (rows .exit)) (now (tables .exit)) (now (index .exit)) ⌝ }
+    ensures { λ r. ⌜ Says (outcome (now (plan .entry))) (now (plan .entry)) r (now (words .exit)) (now (rows .exit)) (now (tables .exit)) × Indexes r (now (words .exit)) (now (rows .exit)) (now (tables .exit)) (now (index .exit)) × Keeps 2 r (now (words .entry)) (now (words .exit)) × Keeps 2 r (now (rows .entry)) (now (rows .exit)) × Keeps 2 r (now (tables .entry)) (now (tables .exit)) × Keeps 3 r (now (index .entry)) (now (index .exit)) ⌝ }
 {
     let r = reader::read_into(plan, words, rows, tables, above);
     match r {
@@ -66,7 +66,7 @@ pub fn read(
     tables: &mut [u32; 16385],
     index: &mut [u32; 1281],
 ) -> Laid
-    ensures { λ r. ⌜ Says (outcome (now (plan .entry))) (now (plan .entry)) r (now (words .exit)) (now (rows .exit)) (now (tables .exit)) × Indexes r (now (words .exit)) (now (rows .exit)) (now (tables .exit)) (now (index .exit)) ⌝ }
+    ensures { λ r. ⌜ Says (outcome (now (plan .entry))) (now (plan .entry)) r (now (words .exit)) (now (rows .exit)) (now (tables .exit)) × Indexes r (now (words .exit)) (now (rows .exit)) (now (tables .exit)) (now (index .exit)) × Keeps 2 r (now (words .entry)) (now (words .exit)) × Keeps 2 r (now (rows .entry)) (now (rows .exit)) × Keeps 2 r (now (tables .entry)) (now (tables .exit)) × Keeps 3 r (now (index .entry)) (now (index .exit)) ⌝ }
 {
     let mut above = [0u8; 32770];
     read_into(plan, words, rows, tables, &mut above, index)

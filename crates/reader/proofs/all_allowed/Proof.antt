@@ -10,7 +10,7 @@ use Rattle.reader.proofs.all_allowed.Statement.{statement}
 use Rattle.reader.proofs.all_allowed.Tie as tie
 use Rattle.reader.proofs.all_allowed.Reads as reads
 use Rattle.reader.proofs.all_allowed.Lts as lts
-use Rattle.reader.proofs.both.Reads as both-reads
+use Rattle.tokens.proofs.both.Reads as both-reads
 use Rattle.reader.proofs.is_allowed.Reads as is-allowed-reads
 
 abbrev Inv-loop : tie.InvT-loop

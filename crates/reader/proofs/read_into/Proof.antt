@@ -16,7 +16,7 @@ use Rattle.reader.proofs.all_allowed.Reads as all-allowed-reads
 
 -- src/lib.rt:58:9
 returns : tie.Need-returns
-returns c = says-refused _ _ _ _ _ (reading-long _ (c .if1 .taken))
+returns c = (says-refused _ _ _ _ _ (reading-long _ (c .if1 .taken)), λ h. refl, λ h. refl, λ h. refl)
 
 -- src/lib.rt:60:9
 all-allowed-requires : tie.Need-all-allowed-requires
@@ -24,7 +24,7 @@ all-allowed-requires c κs = search needs
 
 -- src/lib.rt:61:9
 returns-2 : tie.Need-returns-2
-returns-2 c = says-refused _ _ _ _ _ (reading-byte _ (c .before .before .if1 .left) (sym (c .before .all-allowed .ensures) ∙ not-true _ (c .if2 .taken)))
+returns-2 c = (says-refused _ _ _ _ _ (reading-byte _ (c .before .before .if1 .left) (sym (c .before .all-allowed .ensures) ∙ not-true _ (c .if2 .taken))), λ h. refl, λ h. refl, λ h. refl)
 
 -- src/lib.rt:63:5
 slice-write-rows : tie.Need-slice-write-rows
@@ -60,7 +60,7 @@ same-length-3 c = c .before .before .before .before .before .before .before .bef
 
 -- src/lib.rt:67:9
 returns-3 : tie.Need-returns-3
-returns-3 c = says-refused _ _ _ _ _ (says-bad _ (c .before .before .before .before .before .before .before .before .before .before .before .before .before .before .if1 .left) (sym (c .before .before .before .before .before .before .before .before .before .before .before .before .before .all-allowed .ensures) ∙ not-false _ (c .before .before .before .before .before .before .before .before .before .before .before .before .if2 .left)) _ _ _ _ _ _ (rw (c .enum-told .given .1) at (c .before .before .before .before .before .before .before .before .fill .ensures .0)))
+returns-3 c = (says-refused _ _ _ _ _ (says-bad _ (c .before .before .before .before .before .before .before .before .before .before .before .before .before .before .if1 .left) (sym (c .before .before .before .before .before .before .before .before .before .before .before .before .before .all-allowed .ensures) ∙ not-false _ (c .before .before .before .before .before .before .before .before .before .before .before .before .if2 .left)) _ _ _ _ _ _ (rw (c .enum-told .given .1) at (c .before .before .before .before .before .before .before .before .fill .ensures .0))), λ h. absurd (omega arith), λ h. absurd (omega arith), λ h. absurd (omega arith))
 
 -- src/lib.rt:69:9
 all-fit-requires : tie.Need-all-fit-requires
@@ -85,7 +85,7 @@ same-length-7 c = search needs
 
 -- src/lib.rt:70:9
 returns-4 : tie.Need-returns-4
-returns-4 c = says-refused _ _ _ _ _ (says-not _ (c .before .before .before .before .before .before .before .before .before .before .before .before .before .before .before .before .before .before .before .before .before .before .before .if1 .left) (sym (c .before .before .before .before .before .before .before .before .before .before .before .before .before .before .before .before .before .before .before .before .before .before .all-allowed .ensures) ∙ not-false _ (c .before .before .before .before .before .before .before .before .before .before .before .before .before .before .before .before .before .before .before .before .before .if2 .left)) _ _ _ _ _ _ _ _ _ (rw (c .before .before .before .before .before .before .before .before .before .f .given .1) at (c .before .before .before .before .before .before .before .before .before .before .before .before .before .before .before .before .before .fill .ensures .0)) (first-zero (c .before .before .before .before .before .before .before .before .before .before .before .before .before .before .before .before .before .before .before .before .before .before .before .before .before .before .before .before .before .args .rows .now) (omega arith)) (first-zero (c .before .before .before .before .before .before .before .before .before .before .before .before .before .before .before .before .before .before .before .before .before .before .before .before .before .before .before .before .before .args .tables .now) (omega arith)) (sym (c .before .before .before .all-fit .ensures) ∙ not-true _ (c .if3 .taken)))
+returns-4 c = (says-refused _ _ _ _ _ (says-not _ (c .before .before .before .before .before .before .before .before .before .before .before .before .before .before .before .before .before .before .before .before .before .before .before .if1 .left) (sym (c .before .before .before .before .before .before .before .before .before .before .before .before .before .before .before .before .before .before .before .before .before .before .all-allowed .ensures) ∙ not-false _ (c .before .before .before .before .before .before .before .before .before .before .before .before .before .before .before .before .before .before .before .before .before .if2 .left)) _ _ _ _ _ _ _ _ _ (rw (c .before .before .before .before .before .before .before .before .before .f .given .1) at (c .before .before .before .before .before .before .before .before .before .before .before .before .before .before .before .before .before .fill .ensures .0)) (first-zero (c .before .before .before .before .before .before .before .before .before .before .before .before .before .before .before .before .before .before .before .before .before .before .before .before .before .before .before .before .before .args .rows .now) (omega arith)) (first-zero (c .before .before .before .before .before .before .before .before .before .before .before .before .before .before .before .before .before .before .before .before .before .before .before .before .before .before .before .before .before .args .tables .now) (omega arith)) (sym (c .before .before .before .all-fit .ensures) ∙ not-true _ (c .if3 .taken))), λ h. absurd (omega arith), λ h. absurd (omega arith), λ h. absurd (omega arith))
 
 -- src/lib.rt:47:1
 same-length-8 : tie.Need-same-length-8
@@ -106,7 +106,7 @@ same-length-11 c = search needs
 -- src/lib.rt:47:1
 returns-5 : tie.Need-returns-5
 returns-5 c = let few = rw (c .before .before .before .before .before .before .before .before .before .f .given .1) at (c .before .before .before .before .before .before .before .before .before .before .before .before .before .before .before .before .before .fill .ensures .1) in
-    says-held _ _ _ _ _ _ (says-read _ (c .before .before .before .before .before .before .before .before .before .before .before .before .before .before .before .before .before .before .before .before .before .before .before .if1 .left) (sym (c .before .before .before .before .before .before .before .before .before .before .before .before .before .before .before .before .before .before .before .before .before .before .all-allowed .ensures) ∙ not-false _ (c .before .before .before .before .before .before .before .before .before .before .before .before .before .before .before .before .before .before .before .before .before .if2 .left)) _ _ _ _ _ _ _ _ _ (rw (c .before .before .before .before .before .before .before .before .before .f .given .1) at (c .before .before .before .before .before .before .before .before .before .before .before .before .before .before .before .before .before .fill .ensures .0)) (first-zero (c .before .before .before .before .before .before .before .before .before .before .before .before .before .before .before .before .before .before .before .before .before .before .before .before .before .before .before .before .before .args .rows .now) (omega arith)) (first-zero (c .before .before .before .before .before .before .before .before .before .before .before .before .before .before .before .before .before .before .before .before .before .before .before .before .before .before .before .before .before .args .tables .now) (omega arith)) (sym (c .before .before .before .all-fit .ensures) ∙ not-false _ (c .if3 .left))) (says-index _ (c .before .before .before .before .before .before .before .before .before .before .before .before .before .before .before .before .before .before .before .before .before .before .before .if1 .left) (sym (c .before .before .before .before .before .before .before .before .before .before .before .before .before .before .before .before .before .before .before .before .before .before .all-allowed .ensures) ∙ not-false _ (c .before .before .before .before .before .before .before .before .before .before .before .before .before .before .before .before .before .before .before .before .before .if2 .left)) _ _ _ _ _ _ _ _ _ (rw (c .before .before .before .before .before .before .before .before .before .f .given .1) at (c .before .before .before .before .before .before .before .before .before .before .before .before .before .before .before .before .before .fill .ensures .0)) (first-zero (c .before .before .before .before .before .before .before .before .before .before .before .before .before .before .before .before .before .before .before .before .before .before .before .before .before .before .before .before .before .args .rows .now) (omega arith)) (first-zero (c .before .before .before .before .before .before .before .before .before .before .before .before .before .before .before .before .before .before .before .before .before .before .before .before .before .before .before .before .before .args .tables .now) (omega arith))) (few .3) (few .1) (few .2) (rw (c .before .before .before .before .before .before .before .before .before .before .before .before .before .before .before .before .before .fill .kept .1 .1 .1 .0) (simp length-set (omega (arith, few))))
+    (says-held _ _ _ _ _ _ (says-read _ (c .before .before .before .before .before .before .before .before .before .before .before .before .before .before .before .before .before .before .before .before .before .before .before .if1 .left) (sym (c .before .before .before .before .before .before .before .before .before .before .before .before .before .before .before .before .before .before .before .before .before .before .all-allowed .ensures) ∙ not-false _ (c .before .before .before .before .before .before .before .before .before .before .before .before .before .before .before .before .before .before .before .before .before .if2 .left)) _ _ _ _ _ _ _ _ _ (rw (c .before .before .before .before .before .before .before .before .before .f .given .1) at (c .before .before .before .before .before .before .before .before .before .before .before .before .before .before .before .before .before .fill .ensures .0)) (first-zero (c .before .before .before .before .before .before .before .before .before .before .before .before .before .before .before .before .before .before .before .before .before .before .before .before .before .before .before .before .before .args .rows .now) (omega arith)) (first-zero (c .before .before .before .before .before .before .before .before .before .before .before .before .before .before .before .before .before .before .before .before .before .before .before .before .before .before .before .before .before .args .tables .now) (omega arith)) (sym (c .before .before .before .all-fit .ensures) ∙ not-false _ (c .if3 .left))) (says-index _ (c .before .before .before .before .before .before .before .before .before .before .before .before .before .before .before .before .before .before .before .before .before .before .before .if1 .left) (sym (c .before .before .before .before .before .before .before .before .before .before .before .before .before .before .before .before .before .before .before .before .before .before .all-allowed .ensures) ∙ not-false _ (c .before .before .before .before .before .before .before .before .before .before .before .before .before .before .before .before .before .before .before .before .before .if2 .left)) _ _ _ _ _ _ _ _ _ (rw (c .before .before .before .before .before .before .before .before .before .f .given .1) at (c .before .before .before .before .before .before .before .before .before .before .before .before .before .before .before .before .before .fill .ensures .0)) (first-zero (c .before .before .before .before .before .before .before .before .before .before .before .before .before .before .before .before .before .before .before .before .before .before .before .before .before .before .before .before .before .args .rows .now) (omega arith)) (first-zero (c .before .before .before .before .before .before .before .before .before .before .before .before .before .before .before .before .before .before .before .before .before .before .before .before .before .before .before .before .before .args .tables .now) (omega arith))) (few .3) (few .1) (few .2) (rw (c .before .before .before .before .before .before .before .before .before .before .before .before .before .before .before .before .before .fill .kept .1 .1 .1 .0) (simp length-set (omega (arith, few)))), tt, tt, tt)
 
 pub read-into-spec : {M : Type 1} → statement M
 read-into-spec =
