@@ -1,18 +1,77 @@
-// What the programs share.
+// What the programs print, in the first bytes of the buffer that they lend: each function returns how many.
 use emitter::Emitted;
+use text::number::put_decimal;
+use text::sink::put_byte;
+use text::sink::put_bytes;
 ghost use mathlib.Core.Path.{_≡_};
-ghost use lib.ListN.{take};
+ghost use lib.ListN.{length, take};
+ghost use Rattle.codegen.specs.Answer.{answer, terms-answer};
+ghost use Rattle.emitter.specs.Answered.{items-answer};
+ghost use Rattle.programs.specs.Printed.{refused-line, printed, count-line, counted, shown};
 
-// Prints the text that was written to the buffer, or `refused N`. No contract can say what is written.
-pub fn print(r: Emitted, out: &[u8]) {
+// The line `refused N`.
+fn put_refusal(out: &mut [u8], number: u32) -> usize
+    ensures { λ n. ⌜ (length (now (out .entry)) ≡ 65536 → take n (now (out .exit)) ≡ refused-line number) ⌝ }
+{
+    let word = put_bytes(out, 0, 65537, b"refused ");
+    let digits = put_decimal(out, word, 65537, number as u64);
+    put_byte(out, digits, 65537, 10)
+}
+
+// The line `number length count`.
+fn put_counts(out: &mut [u8], number: u32, size: usize, count: usize) -> usize
+    ensures { λ n. ⌜ (length (now (out .entry)) ≡ 65536 → take n (now (out .exit)) ≡ count-line number size count) ⌝ }
+{
+    let first = put_decimal(out, 0, 65537, number as u64);
+    let space = put_bytes(out, first, 65537, b" ");
+    let second = put_decimal(out, space, 65537, size as u64);
+    let space = put_bytes(out, second, 65537, b" ");
+    let third = put_decimal(out, space, 65537, count as u64);
+    put_byte(out, third, 65537, 10)
+}
+
+// The text, which stands in the buffer, or the line `refused N`, which is put there: a refusal left the buffer unused.
+fn put_shown(r: Emitted, out: &mut [u8]) -> usize
+    ensures { λ n. ⌜ (length (now (out .entry)) ≡ 65536 → take n (now (out .exit)) ≡ shown r (now (out .entry))) ⌝ }
+{
     match r {
-        Emitted::Refused { number } => print_refusal(number),
+        Emitted::Refused { number } => put_refusal(out, number),
         Emitted::Text {
             length,
             count: _count,
-        } => {
-            io::write_all(1, first(out, length));
-        }
+        } => length,
+    }
+}
+
+// What the program `whole` prints.
+pub fn whole(plan: &[u8], out: &mut [u8; 65536]) -> usize
+    ensures { λ n. ⌜ take n (now (out .exit)) ≡ printed (answer (now (plan .entry)) 65536) ⌝ }
+{
+    put_shown(emitter::emit(plan, out), out)
+}
+
+// What the program `terms` prints.
+pub fn terms(plan: &[u8], out: &mut [u8; 65536]) -> usize
+    ensures { λ n. ⌜ take n (now (out .exit)) ≡ printed (terms-answer (now (plan .entry)) 65536) ⌝ }
+{
+    put_shown(emitter::emit_terms(plan, out), out)
+}
+
+// What the program `items` prints.
+pub fn items(plan: &[u8], out: &mut [u8; 65536]) -> usize
+    ensures { λ n. ⌜ take n (now (out .exit)) ≡ printed (items-answer (now (plan .entry)) 65536) ⌝ }
+{
+    put_shown(emitter::emit_items(plan, out), out)
+}
+
+// What the program `count` prints: of the answer of `whole` its number, length and count.
+pub fn count(plan: &[u8], out: &mut [u8; 65536]) -> usize
+    ensures { λ n. ⌜ take n (now (out .exit)) ≡ counted (answer (now (plan .entry)) 65536) ⌝ }
+{
+    let r = emitter::emit(plan, out);
+    match r {
+        Emitted::Refused { number } => put_counts(out, number, 0, 0),
+        Emitted::Text { length, count } => put_counts(out, 0, length, count),
     }
 }
 
@@ -26,8 +85,7 @@ pub fn first(out: &[u8], n: usize) -> &[u8]
     out
 }
 
-fn print_refusal(number: u32) {
-    io::write_all(1, b"refused ");
-    io::print_decimal(1, number as u64);
-    io::write_all(1, b"\n");
+// Prints the first n bytes. No contract can say what is written.
+pub fn print(out: &[u8; 65536], n: usize) {
+    io::write_all(1, first(out, n));
 }

@@ -1,0 +1,9 @@
+// Reads a plan on standard input and prints the line `number length count` of the answer that `whole` prints.
+fn main() {
+    // One byte more than a plan may have: a longer one is refused for its length, and never cut.
+    let mut plan = [0u8; 65537];
+    let mut out = [0u8; 65536];
+    let n = io::read_full(0, &mut plan);
+    let length = programs::count(&plan[..n], &mut out);
+    programs::print(&out, length);
+}
