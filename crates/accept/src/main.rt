@@ -2,13 +2,8 @@
 fn main() {
     // One byte more than a plan may have: a longer one is refused for its length, and never cut.
     let mut plan = [0u8; 65537];
+    let mut out = [0u8; 65536];
     let n = io::read_full(0, &mut plan);
-    let number = refusals::refused(&plan[..n]);
-    if number == 0 {
-        io::write_all(1, b"accepted\n");
-        return;
-    }
-    io::write_all(1, b"refused ");
-    io::print_decimal(1, number as u64);
-    io::write_all(1, b"\n");
+    let printed = programs::accept(&plan[..n], &mut out);
+    programs::print(&out, printed);
 }

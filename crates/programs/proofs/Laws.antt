@@ -7,7 +7,7 @@ use native.Mathlib.Omega.{arith}
 use lib.Dec.{ltb, leb, eqb}
 use lib.ListN.{length, take, drop, length-append}
 use lib.Seq.{take-append-seam}
-use borrow.Author.Tests.{ltb-false}
+use borrow.Author.Tests.{ltb-false, ne-eqb}
 use Rattle.text.specs.Codes.{codes}
 use Rattle.text.specs.Digits.{digits, decimal}
 use Rattle.text.specs.DigitsLaws.{part-less, places, forty-places}
@@ -22,7 +22,7 @@ use Rattle.codegen.specs.Answer.{Answer, refuse, answer-of, answer, terms-answe
 use Rattle.emitter.specs.Answered.{Answers, items-answer}
 use Rattle.emitter.specs.declared.Emitted.{Emitted}
 use Rattle.emitter.specs.declared.Emitted.the-variants.{Refused, Text}
-use Rattle.programs.specs.Printed.{refused-line, printed, count-line, counted, shown}
+use Rattle.programs.specs.Printed.{refused-line, accepted-line, verdict, printed, count-line, counted, shown}
 
 -- LENGTHS
 
@@ -61,6 +61,10 @@ first-bytes {t} {o} {o'} {n} p h l =
 
 pub refusal-put : {n : ℕ} {o o' : List ℕ} {k : ℕ} → n < 18446744073709551616 → Puts 65537 (refused-line n) o 0 o' k → length o ≡ 65536 → take k o' ≡ refused-line n
 refusal-put {n} h p l = first-bytes p (refused-length n h) l
+
+pub accepted-put : {o o' : List ℕ} {k : ℕ} → Puts 65537 accepted-line o 0 o' k → length o ≡ 65536 → take k o' ≡ accepted-line
+unfolding accepted-line
+accepted-put p l = first-bytes p (omega arith) l
 
 pub counts-put : {n l k : ℕ} {o o' : List ℕ} {i : ℕ} → n < 18446744073709551616 → l < 18446744073709551616 → k < 18446744073709551616 → Puts 65537 (count-line n l k) o 0 o' i → length o ≡ 65536 → take i o' ≡ count-line n l k
 counts-put {n} {l} {k} h g i p e = first-bytes p (count-length n l k h g i) e
@@ -101,3 +105,12 @@ refused-counted plan e p = let q : Answers (answer plan 65536) (Refused _) _ _ =
 
 pub text-counted : (plan : List ℕ) {room l k : ℕ} {before after : List ℕ} → room ≡ 65536 → Answers (answer plan room) (Text l k) before after → count-line 0 l k ≡ counted (answer plan 65536)
 text-counted plan e p = let q : Answers (answer plan 65536) (Text _ _) _ _ = rw e at p in rw (← q .number, ← q .length, ← q .count) refl
+
+-- the line that is printed of a plan's lowest refusal, n
+pub none-refused : {n m : ℕ} → n ≡ m → n ≡ 0 → accepted-line ≡ verdict m
+unfolding verdict
+none-refused e z = rw (← e, z) refl
+
+pub one-refused : {n m : ℕ} → n ≡ m → (n ≡ 0 → ⊥) → refused-line n ≡ verdict m
+unfolding verdict
+one-refused {n} e h = rw (← e, ne-eqb n 0 h) refl

@@ -18,6 +18,13 @@ refused-line n = codes "refused " ++ (decimal n ++ (10 ∷ []))
 unfoldable pub printed : Answer → List ℕ
 printed a = cond (eqb (a .number) 0) (a .text) (refused-line (a .number))
 
+-- the line `accepted`, and what is printed of the number of a plan's lowest refusal from 1 to 10, 0 for none
+unfoldable pub accepted-line : List ℕ
+accepted-line = codes "accepted" ++ (10 ∷ [])
+
+unfoldable pub verdict : ℕ → List ℕ
+verdict n = cond (eqb n 0) accepted-line (refused-line n)
+
 -- the line `number length count`
 unfoldable pub count-line : ℕ → ℕ → ℕ → List ℕ
 count-line number length count = decimal number ++ (codes " " ++ (decimal length ++ (codes " " ++ (decimal count ++ (10 ∷ [])))))

@@ -7,7 +7,8 @@ ghost use mathlib.Core.Path.{_≡_};
 ghost use lib.ListN.{length, take};
 ghost use Rattle.codegen.specs.Answer.{answer, terms-answer};
 ghost use Rattle.emitter.specs.Answered.{items-answer};
-ghost use Rattle.programs.specs.Printed.{refused-line, printed, count-line, counted, shown};
+ghost use Rattle.plan.specs.Refusal.{refusal};
+ghost use Rattle.programs.specs.Printed.{refused-line, accepted-line, verdict, printed, count-line, counted, shown};
 
 // The line `refused N`.
 fn put_refusal(out: &mut [u8], number: u32) -> usize
@@ -16,6 +17,14 @@ fn put_refusal(out: &mut [u8], number: u32) -> usize
     let word = put_bytes(out, 0, 65537, b"refused ");
     let digits = put_decimal(out, word, 65537, number as u64);
     put_byte(out, digits, 65537, 10)
+}
+
+// The line `accepted`.
+fn put_accepted(out: &mut [u8]) -> usize
+    ensures { λ n. ⌜ (length (now (out .entry)) ≡ 65536 → take n (now (out .exit)) ≡ accepted-line) ⌝ }
+{
+    let word = put_bytes(out, 0, 65537, b"accepted");
+    put_byte(out, word, 65537, 10)
 }
 
 // The line `number length count`.
@@ -73,6 +82,17 @@ pub fn count(plan: &[u8], out: &mut [u8; 65536]) -> usize
         Emitted::Refused { number } => put_counts(out, number, 0, 0),
         Emitted::Text { length, count } => put_counts(out, 0, length, count),
     }
+}
+
+// What the program `accept` prints.
+pub fn accept(plan: &[u8], out: &mut [u8; 65536]) -> usize
+    ensures { λ n. ⌜ take n (now (out .exit)) ≡ verdict (refusal (now (plan .entry))) ⌝ }
+{
+    let number = refusals::refused(plan);
+    if number == 0 {
+        return put_accepted(out);
+    }
+    put_refusal(out, number)
 }
 
 // The first n bytes.
