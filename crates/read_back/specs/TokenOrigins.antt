@@ -9,15 +9,16 @@ use lib.Dec.{eqb}
 use Rattle.text.specs.Codes.{codes}
 use Rattle.text.specs.Digits.{decimal}
 use Rattle.text.specs.Sink.{spaces}
-use Rattle.plan.specs.Plan.{Options, Environment, Generated, Plan}
+use Rattle.plan.specs.Plan.{Environment, Generated, Plan}
 use Rattle.plan.specs.Lookup.{type-at}
 use Rattle.plan.specs.Layout.{digit}
 use Rattle.codegen.specs.Piece.{Piece, fix, file, sym, pos, type, quoted-sym, quoted-pos, num, var, new, lit, brace, unbrace, break, indent, sym-text, bytes}
 use Rattle.codegen.specs.Block.{overflow, What, Edge, opens, gives-false, ends, calls, Part, iter-overflow-action, line-bytes, edge-bytes}
 use Rattle.codegen.specs.Items.{items}
-use Rattle.codegen.specs.Terms.{term-parts, all-parts}
+use Rattle.codegen.specs.Terms.{all-parts}
 use Rattle.splitting.specs.Cases.{and-left, and-right, and-both, false-true, none-some}
 use Rattle.splitting.specs.Demand3.{BlockTable}
+use Rattle.splitting.specs.Theorems.{all-parts-append, one-more}
 use Rattle.origin.specs.Origin.{Origin, of-binding, of-arm, of-name, of-return, of-declared, term-of, int-at, literal-type, flat, bare, quiet, silent, silents, Spelled, done, quietly, number, field-number, literal, Words, unquoted, log-line, last-line, Written, in-words, at-overflow, at-closure, Parts, no-parts, one-part}
 use Rattle.origin.specs.ItemOrigins.{bare-unmarked, quiet-silent, items-fine}
 use Rattle.read_back.specs.Tokens.{Token, string, integer, other, token, piece-tokens, what-tokens, part-tokens, _∈_}
@@ -248,15 +249,6 @@ module _ (e : Environment) (g : Generated) where
       not-other-append (what-tokens e d (q .around) (q .what)) _ ∙ ap (λ xs. xs ++ not-other (part-tokens e qs)) (written-order d (q .around) h) ∙ ap (λ xs. texts os ++ xs) (parts-order hs) ∙ back (flat-append (origin-tokens e g) os us)
 
 -- BLOCK TABLES
-
-all-parts-append : (o : Options) (e : Environment) (gs hs : List Generated) → all-parts o e (gs ++ hs) ≡ all-parts o e gs ++ all-parts o e hs
-unfolding all-parts
-all-parts-append o e [] hs = refl
-all-parts-append o e (g ∷ gs) hs = rw (all-parts-append o e gs hs, append-assoc)
-
-one-more : (o : Options) (e : Environment) (g : Generated) (gs : List Generated) → all-parts o e (g ∷ gs) ≡ term-parts o e g ++ all-parts o e gs
-unfolding all-parts
-one-more o e g gs = refl
 
 pub tokens-by-block-tables : (p : Plan) (g : Generated) (b : BlockTable p g) → part-tokens (p .env) (all-parts (p .options) (p .env) (p .generated)) ≡ tables-tokens p (b .before) ++ (table-tokens p g ++ tables-tokens p (b .after))
 tokens-by-block-tables p g b = rw (b .is, all-parts-append, one-more, tokens-append, tokens-append) refl

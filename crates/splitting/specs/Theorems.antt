@@ -133,12 +133,12 @@ numbered-in-opening-order a p g e b =
 pub closure-encloses-body : ClosureEnclosesBody
 closure-encloses-body a p g e b earlier later r q h = term-encloses (p .options) (p .env) g earlier later r q (block-placed a p g e b) h
 
-all-parts-append : (o : Options) (e : Environment) (gs hs : List Generated) → all-parts o e (gs ++ hs) ≡ all-parts o e gs ++ all-parts o e hs
+pub all-parts-append : (o : Options) (e : Environment) (gs hs : List Generated) → all-parts o e (gs ++ hs) ≡ all-parts o e gs ++ all-parts o e hs
 unfolding all-parts
 all-parts-append o e [] hs = refl
 all-parts-append o e (g ∷ gs) hs = rw (all-parts-append o e gs hs, append-assoc)
 
-one-more : (o : Options) (e : Environment) (g : Generated) (gs : List Generated) → all-parts o e (g ∷ gs) ≡ term-parts o e g ++ all-parts o e gs
+pub one-more : (o : Options) (e : Environment) (g : Generated) (gs : List Generated) → all-parts o e (g ∷ gs) ≡ term-parts o e g ++ all-parts o e gs
 unfolding all-parts
 one-more o e g gs = refl
 
