@@ -535,8 +535,43 @@ parameter-asked-first = record {
       ∷ "}" ∷ []);
 }
 
+-- each literal is of its own row; the log has the term's name and the rule's position, the last line the declared position
+abbrev pub names-and-positions : Case
+names-and-positions = record {
+  plan =
+      lines
+      ("nopragmas log split threshold" ∷ "0 1 0 -" ∷ ""
+      ∷ "file" ∷ ""
+      ∷ "sym" ∷ "other" ∷ "pick" ∷ ""
+      ∷ "pos" ∷ "p" ∷ "q" ∷ "r" ∷ ""
+      ∷ "kind name extern nodebug pos list" ∷ ""
+      ∷ "type name shape list" ∷ ""
+      ∷ "name pos ret multi partial ctor xtor infallible list" ∷ "1 1 2 0 0 in - 0 1" ∷ ""
+      ∷ "term" ∷ "0" ∷ ""
+      ∷ "kind a b list" ∷ "arg 0 - -" ∷ "int 2 00000000000000000000000000000003 -" ∷ "int 1 00000000000000000000000000000004 -" ∷ ""
+      ∷ "level kind a b list" ∷ "0 match 0 - -" ∷ "1 int 1 00000000000000000000000000000005 -" ∷ "2 equal 0 2 -" ∷ "3 return 1 2 -" ∷ "" ∷ []);
+  count = 0;
+  text =
+      lines
+      (""
+      ∷ "// Generated as internal constructor for term pick."
+      ∷ "pub fn constructor_pick<C: Context>("
+      ∷ "    ctx: &mut C,"
+      ∷ "    arg0: u8,"
+      ∷ ") -> u16 {"
+      ∷ "    if arg0 == 0x5_u8 {"
+      ∷ "        if arg0 == 0x4_u8 {"
+      ∷ "            // Rule at r."
+      ∷ "            log::debug!(\"ISLE {} {}\", \"pick\", \"r\");"
+      ∷ "            return 0x3_u16;"
+      ∷ "        }"
+      ∷ "    }"
+      ∷ "    unreachable!(\"no rule matched for term {} at {}; should it be partial?\", \"pick\", \"q\")"
+      ∷ "}" ∷ []);
+}
+
 abbrev pub pitfalls : List Case
-pitfalls = one-arm-bound ∷ one-arm-unmarked ∷ two-arms-marked ∷ scope-end ∷ closure-numbers ∷ one-arm-no-closure ∷ weight-of-steps ∷ parameter-asked-first ∷ []
+pitfalls = one-arm-bound ∷ one-arm-unmarked ∷ two-arms-marked ∷ scope-end ∷ closure-numbers ∷ one-arm-no-closure ∷ weight-of-steps ∷ parameter-asked-first ∷ names-and-positions ∷ []
 
 -- THE THEOREM
 
