@@ -1,4 +1,4 @@
-//! Links the emitter's static library, which `rt staticlib emitter` writes to `target/staticlib`.
+//! Links the emitter's static library, which `tools/staticlib emitter` writes to `target/staticlib`.
 //! `RIZHAVEL_LIB` names another folder.
 
 use std::env;

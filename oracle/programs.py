@@ -26,8 +26,8 @@ def generate(kind, seed, count):
 
 
 def run(form, plans, buffer=65536):
-    """What `oracle/run FORM BUFFER` prints for each plan."""
-    arguments = ["run", "many", form] + ([] if form == "check" else [buffer])
+    """What `oracle/run FORM BUFFER` prints for each plan; `check` and `schedule` have no buffer."""
+    arguments = ["run", "many", form] + ([] if form in ("check", "schedule") else [buffer])
     answers = []
     for start in range(0, len(plans), BATCH):
         answers += call(arguments, frames.join(plans[start:start + BATCH]))

@@ -75,14 +75,14 @@ fn emit(env: &Environment, form: Form, buffer: usize) -> Option<String> {
 
 /// A buffer that reports an error as soon as the text is longer, which makes codegen.rs stop: a
 /// small plan can have a text beyond any memory.
-struct Bounded {
-    text: String,
+pub struct Bounded {
+    pub text: String,
     buffer: usize,
-    is_over: bool,
+    pub is_over: bool,
 }
 
 impl Bounded {
-    fn new(buffer: usize) -> Bounded {
+    pub fn new(buffer: usize) -> Bounded {
         Bounded {
             text: String::new(),
             buffer,

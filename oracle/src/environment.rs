@@ -90,7 +90,7 @@ fn binding_id(row: Number) -> BindingId {
         .expect("a table has at most 1,024 bindings")
 }
 
-fn binding_ids(rows: &[Number]) -> Vec<BindingId> {
+pub fn binding_ids(rows: &[Number]) -> Vec<BindingId> {
     rows.iter().map(|&row| binding_id(row)).collect()
 }
 

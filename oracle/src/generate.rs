@@ -1,5 +1,5 @@
-//! `generate valid|pairs|damaged SEED COUNT DIR [--coverage] [--profile NAME]`: seeded plans, as
-//! files of the folder DIR, or as frames on standard output if DIR is `-`.
+//! `generate KIND SEED COUNT DIR [--coverage] [--profile NAME]`: seeded plans of a kind, as files of
+//! the folder DIR, or as frames on standard output if DIR is `-`.
 
 #[path = "generate/base.rs"]
 mod base;
@@ -36,10 +36,14 @@ mod faults_values;
 mod features;
 #[path = "generate/limits.rs"]
 mod limits;
+#[path = "generate/near.rs"]
+mod near;
 #[path = "generate/pairs.rs"]
 mod pairs;
 #[path = "generate/random.rs"]
 mod random;
+#[path = "generate/repaired.rs"]
+mod repaired;
 #[cfg(coverage)]
 #[path = "generate/report.rs"]
 mod report;
@@ -48,6 +52,10 @@ mod report;
 mod report;
 #[path = "generate/rows.rs"]
 mod rows;
+#[path = "generate/scheduled.rs"]
+mod scheduled;
+#[path = "generate/scope.rs"]
+mod scope;
 #[path = "generate/texts.rs"]
 mod texts;
 #[path = "generate/valid.rs"]
@@ -59,14 +67,17 @@ use std::io::{BufWriter, Write};
 use std::path::PathBuf;
 use std::process::ExitCode;
 
-const USAGE: &str =
-    "usage: generate valid|pairs|damaged SEED COUNT DIR [--coverage] [--profile NAME]";
+const USAGE: &str = "usage: generate valid|pairs|damaged|scheduled|repaired|near SEED COUNT DIR \
+                     [--coverage] [--profile NAME]";
 
 #[derive(Clone, Copy, PartialEq)]
 enum Command {
     Valid,
     Pairs,
     Damaged,
+    Scheduled,
+    Repaired,
+    Near,
 }
 
 struct Arguments {
@@ -97,6 +108,9 @@ fn arguments() -> Option<Arguments> {
         "valid" => Command::Valid,
         "pairs" => Command::Pairs,
         "damaged" => Command::Damaged,
+        "scheduled" => Command::Scheduled,
+        "repaired" => Command::Repaired,
+        "near" => Command::Near,
         _ => return None,
     };
     let (seed, count) = (seed.parse().ok()?, count.parse().ok()?);
@@ -148,39 +162,60 @@ impl Output {
     }
 }
 
+/// A plan of the profile; of any if none is given.
+fn valid_plan(random: &mut Random, profile: Option<&'static str>) -> rows::Plan {
+    let profile = profile.unwrap_or_else(|| valid::profile(random));
+    valid::plan(random, profile)
+}
+
+/// Makes the plan, or the pair, of number `index`.
+fn put(
+    arguments: &Arguments,
+    index: u64,
+    output: &mut Output,
+    report: &mut Option<Report>,
+) -> std::io::Result<()> {
+    let mut random = Random::for_plan(arguments.seed, index);
+    let report = report.iter_mut();
+    match arguments.command {
+        Command::Valid => {
+            let plan = valid_plan(&mut random, arguments.profile);
+            report.for_each(|report| report.valid(index, &plan));
+            output.put(index, "", &plan.bytes())
+        }
+        Command::Pairs => {
+            let pair = pairs::pair(&mut random);
+            report.for_each(|report| report.pair(index, &pair));
+            output.put(index, ".off", &pair.off.bytes())?;
+            output.put(index, ".on", &pair.on.bytes())
+        }
+        Command::Damaged => {
+            let damaged = damaged::damaged(&mut random);
+            report.for_each(|report| report.damaged(index, &damaged));
+            output.put(index, "", &damaged.bytes)
+        }
+        Command::Scheduled | Command::Repaired => {
+            let plan = match arguments.command {
+                Command::Scheduled => scheduled::plan(&mut random),
+                _ => repaired::plan(&mut random),
+            };
+            report.for_each(|report| report.without_fault(index, &plan));
+            output.put(index, "", &plan.bytes())
+        }
+        Command::Near => {
+            let near = near::near(&mut random);
+            report.for_each(|report| report.near(index, &near));
+            output.put(index, "", &near.plan.bytes())
+        }
+    }
+}
+
 /// Makes the plans; false if the report says that something is wrong or missing.
 fn run(arguments: &Arguments) -> std::io::Result<bool> {
     let mut output = Output::new(&arguments.folder)?;
     let mut report = arguments.coverage.then(Report::default);
     for index in 0..arguments.count {
-        let mut random = Random::for_plan(arguments.seed, index);
-        match arguments.command {
-            Command::Valid => {
-                let profile = arguments
-                    .profile
-                    .unwrap_or_else(|| valid::profile(&mut random));
-                let plan = valid::plan(&mut random, profile);
-                output.put(index, "", &plan.bytes())?;
-                report
-                    .iter_mut()
-                    .for_each(|report| report.valid(index, &plan));
-            }
-            Command::Pairs => {
-                let pair = pairs::pair(&mut random);
-                output.put(index, ".off", &pair.off.bytes())?;
-                output.put(index, ".on", &pair.on.bytes())?;
-                report
-                    .iter_mut()
-                    .for_each(|report| report.pair(index, &pair));
-            }
-            Command::Damaged => {
-                let damaged = damaged::damaged(&mut random);
-                output.put(index, "", &damaged.bytes)?;
-                report
-                    .iter_mut()
-                    .for_each(|report| report.damaged(index, &damaged));
-            }
-        }
+        put(arguments, index, &mut output, &mut report)?;
     }
     output.finish()?;
     Ok(report.is_none_or(|report| match arguments.command {
@@ -188,6 +223,8 @@ fn run(arguments: &Arguments) -> std::io::Result<bool> {
         Command::Valid => report.print_accepted(Wanted::Nothing),
         Command::Pairs => report.print_accepted(Wanted::Split),
         Command::Damaged => report.print_damaged(),
+        Command::Scheduled | Command::Repaired => report.print_accepted(Wanted::Schedule),
+        Command::Near => report.print_accepted(Wanted::Changes),
     }))
 }
 

@@ -3,7 +3,7 @@
 //! The modules under `target/oracle/isle` are copies of the crate's source with the few edits that
 //! `oracle/build` applies; those under `standin` take the place of modules of the crate that are
 //! not at hand. The rest is ours: the plan's reader, the environments made from it, the count of
-//! odd literals and the answer.
+//! odd literals, the answer and the schedule check.
 
 #[macro_use]
 mod standin {
@@ -27,6 +27,10 @@ pub mod ast;
 #[cfg_attr(not(coverage), path = "../../target/oracle/isle/codegen.rs")]
 #[cfg_attr(coverage, path = "../../target/oracle/coverage/isle/codegen.rs")]
 pub mod codegen;
+/// The same with calls of [`watch`] in it.
+#[allow(warnings)]
+#[path = "../../target/oracle/watched/codegen.rs"]
+pub mod watched_codegen;
 #[allow(warnings)]
 #[path = "../../target/oracle/isle/files.rs"]
 pub mod files;
@@ -47,3 +51,5 @@ pub mod answer;
 pub mod environment;
 pub mod odd;
 pub mod plan;
+pub mod schedule;
+pub mod watch;

@@ -4,6 +4,8 @@
 
 #[path = "readings/limits.rs"]
 mod limits;
+#[path = "readings/schedule.rs"]
+mod schedule;
 
 use oracle::answer::{Answer, Form, answer, check, with_large_stack};
 use oracle::environment::Environment;
@@ -25,6 +27,9 @@ fn main() {
         limits::limits(&mut tally);
         limits::nesting(&mut tally);
         limits::explosion(&mut tally);
+        schedule::cases(&mut tally);
+        schedule::sheets(&mut tally);
+        schedule::lengths(&mut tally);
     });
     println!("{} held, {} failed", tally.held, tally.failed);
     exit(if tally.failed == 0 { 0 } else { 1 });
@@ -54,6 +59,7 @@ impl Tally {
             if answer.number == 0 {
                 self.expect(what, by_codegen(plan), answer.text);
             }
+            schedule::expect_same_text(self, what, plan);
         }
     }
 }

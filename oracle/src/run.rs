@@ -2,11 +2,12 @@
 //! commands and the layout of a frame.
 
 use oracle::answer::{Form, answer, check, with_large_stack};
+use oracle::schedule::schedule;
 use std::io::{self, BufRead, Read, Write};
 use std::process::exit;
 
 const USAGE: &str =
-    "usage: oracle/run [many] whole|terms|count [BUFFER] | [many] check | frames FILE..";
+    "usage: oracle/run [many] whole|terms|count [BUFFER] | [many] check|schedule | frames FILE..";
 
 fn main() {
     let args: Vec<String> = std::env::args().skip(1).collect();
@@ -34,6 +35,7 @@ enum Job {
     Text(Form, usize),
     Count(usize),
     Check,
+    Schedule,
 }
 
 fn job_or_usage(args: &[&str]) -> Job {
@@ -54,6 +56,7 @@ fn job(args: &[&str]) -> Option<Job> {
         "terms" => Some(Job::Text(Form::Terms, buffer()?)),
         "count" => Some(Job::Count(buffer()?)),
         "check" if args.len() == 1 => Some(Job::Check),
+        "schedule" if args.len() == 1 => Some(Job::Schedule),
         _ => None,
     }
 }
@@ -75,6 +78,7 @@ fn printed(job: Job, plan: &[u8]) -> String {
             Ok(()) => "accepted\n".to_string(),
             Err(number) => format!("refused {number}\n"),
         },
+        Job::Schedule => schedule(plan).to_string(),
     }
 }
 

@@ -18,7 +18,7 @@ use steps::lets::emit_lets;
 use steps::{Checked, Opens, Purpose};
 
 // What a row has done: where it has come to, the frame that it opens, and whether that has a closure.
-#[derive(Drop)]
+#[derive(Clone, Copy)]
 pub struct RowDone {
     pub at: usize,
     pub odd: usize,

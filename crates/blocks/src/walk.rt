@@ -20,7 +20,7 @@ use sema::signature::ReturnKind;
 use steps::{Opens, Purpose};
 
 // An open frame: one more than the level of its row (0: the root), the row, what it is for, and the closure in it.
-#[derive(Drop)]
+#[derive(Clone, Copy)]
 pub struct Frame {
     pub level: usize,
     pub row: usize,
@@ -131,6 +131,7 @@ fn end_frame(nesting: Nesting, d: usize, closure: Closure) -> Nesting
 }
 
 // The bindings that have names where the frame that row r opens closes are kept; a `return` opens no frame.
+#[tactic(auto, using(crate::specs::Stack::saved_none, crate::specs::Stack::saved_set))]
 fn save_scope(
     scopes: &mut [[bool; 1024]],
     top: usize,

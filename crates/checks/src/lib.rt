@@ -1,4 +1,6 @@
 // The refusals 4 and 7 to 10, over the tables that the layout has read.
+#![tactic(auto)]
+
 pub mod arms;
 pub mod list;
 pub mod loops;

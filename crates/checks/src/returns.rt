@@ -7,6 +7,7 @@ ghost use Rattle.layout.specs.View.{cut, cuts};
 ghost use Rattle.view.specs.Tables.{table_rows, generated_at, plan_in};
 
 // Whether row r, in a block that ends before row `end`, is no loop, and no return or the last step of its block.
+#[tactic(auto, using(crate::proofs::Blocks::a_loop, crate::proofs::Blocks::no_return, crate::proofs::Blocks::return_alone, crate::proofs::Blocks::return_before))]
 fn is_last(words: &[u32], rows: &[u32], r: usize, end: usize) -> bool
     ensures { result ≡ (not (is_loop (block_of (cut words.now rows.now r)))
         && (not (is_return (block_of (cut words.now rows.now r)))

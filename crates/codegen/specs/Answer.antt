@@ -1,5 +1,5 @@
 -- The answer to a plan's bytes and a buffer's length: document 01, "The answer". Assumes nothing: these are definitions.
-use Rattle.core.specs.Prelude.{ℕ, cond, List, [], ◌∷◌, ◌++◌, length, nat_le}
+use Rattle.std.specs.Prelude.{ℕ, cond, List, [], ◌++◌, length, nat_le}
 use Rattle.plan.specs.Plan.{Plan}
 use Rattle.plan.specs.Refusal.{Outcome, refused, accepted, outcome}
 use Rattle.codegen.specs.Piece.{render}

@@ -1,10 +1,10 @@
 -- What holds of every answer: a refusal gives nothing, a text gives its length, and the count is at most the length.
-use Rattle.core.specs.Prelude.{◌≡◌, ℕ, ◌≤◌, Bool, true, false, cond, List, [], length, nat_le}
+use Rattle.std.specs.Prelude.{◌≡◌, ℕ, ◌≤◌, Bool, true, false, cond, List, [], length, nat_le}
 use Rattle.std.specs.Prelude.{refl}
 use Rattle.std.proofs.Math.Option.{Option, some, none}
 use Rattle.std.proofs.Common.{arith, leb-true}
 use Rattle.plan.specs.Plan.{Plan}
-use Rattle.plan.specs.Refusal.{Outcome, refused, accepted, outcome, number_of, refusal, laid_out, judged, fits_length, bytes_allowed, within_most, all_exist, lengths_fit, sources_lower, returns_fit, matches_have_arms, loops_iterate}
+use Rattle.plan.specs.Refusal.{Outcome, refused, accepted, outcome, laid_out, judged, fits_length, bytes_allowed, within_most, all_exist, lengths_fit, sources_lower, returns_fit, matches_have_arms, loops_iterate}
 use Rattle.plan.specs.Layout.{read}
 use Rattle.codegen.specs.Answer.{Answer, refuse, answer_of, answer, terms_answer, whole_text}
 use Rattle.codegen.specs.Terms.{terms_text, odds}

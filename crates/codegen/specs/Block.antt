@@ -1,6 +1,6 @@
 -- A block's rows in order, with a stack of open frames: codegen.rs 672, `emit_block_contents`.
 -- Assumes nothing: these are definitions.
-use Rattle.core.specs.Prelude.{ℕ, zero, suc, ◌+◌, Bool, true, false, cond, ◌&&◌, List, [], ◌∷◌, ◌++◌, length, ◌==◌, nat_le, slice_index}
+use Rattle.std.specs.Prelude.{ℕ, zero, suc, ◌+◌, Bool, true, false, cond, ◌&&◌, List, [], ◌∷◌, ◌++◌, length, ◌==◌, nat_le, slice_index}
 use Rattle.std.specs.Prelude.{refl}
 use Rattle.std.proofs.Math.Option.{Option, some, none}
 use Rattle.text.specs.Codes.{codes}

@@ -1,6 +1,6 @@
 -- Worked cases, by computation from the plan's bytes: those that document 01 marks with a star, and some where a port goes wrong
 -- easily. The texts of the second kind are the crate's own.
-use Rattle.core.specs.Prelude.{◌≡◌, ℕ, zero, suc, Bool, true, ◌&&◌, List, [], ◌∷◌, ◌++◌, length, ◌==◌}
+use Rattle.std.specs.Prelude.{◌≡◌, ℕ, zero, suc, Bool, true, ◌&&◌, List, [], ◌∷◌, ◌++◌, length, ◌==◌}
 use Prim.Native.String.{String}
 use Rattle.std.specs.Prelude.{refl}
 use Rattle.text.specs.Codes.{codes}

@@ -1,5 +1,5 @@
 -- What it is for a closure to enclose its body, said of the parts of a block table's text. Assumes nothing: these are definitions.
-use Rattle.core.specs.Prelude.{◌≡◌, ℕ, suc, ◌+◌, Bool, false, cond, ◌&&◌, List, [], ◌∷◌, ◌++◌, nat_le, nat_lt}
+use Rattle.std.specs.Prelude.{◌≡◌, ℕ, suc, ◌+◌, Bool, false, cond, ◌&&◌, List, [], ◌∷◌, ◌++◌, nat_le, nat_lt}
 use Rattle.std.proofs.Math.Option.{Option, some, none}
 use Rattle.codegen.specs.Block.{Edge, opens, gives_false, ends, calls, edge, Part}
 

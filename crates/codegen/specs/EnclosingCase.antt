@@ -1,7 +1,7 @@
 -- What Enclosing.antt says, computed for the worked case `closure-numbers`: a definition of the text that puts a closure's lines
 -- elsewhere is refused here. The law for every plan is `closure-encloses-body` of crate splitting.
 use Rattle.std.specs.Prelude.{refl}
-use Rattle.core.specs.Prelude.{List, [], ◌∷◌, take, drop}
+use Rattle.std.specs.Prelude.{List, [], ◌∷◌, take, drop}
 use Rattle.text.specs.Split.{split as text_Split_split, ended as text_Split_ended, same as text_Split_same, starts_with as text_Split_starts_with}
 use Rattle.plan.specs.Layout.{◌⊛◌, each as plan_Layout_each, only as plan_Layout_only, digits as plan_Layout_digits, decimal_from as plan_Layout_decimal_from, number as plan_Layout_number, unused as plan_Layout_unused, bit as plan_Layout_bit, number_to as plan_Layout_number_to, hex_digits as plan_Layout_hex_digits, hex_from as plan_Layout_hex_from, value as plan_Layout_value, function_kind as plan_Layout_function_kind, list as plan_Layout_list, field as plan_Layout_field, pattern_binding as plan_Layout_pattern_binding, row as plan_Layout_row, options_row as plan_Layout_options_row, by_kind as plan_Layout_by_kind, declared as plan_Layout_declared, type_row as plan_Layout_type_row, variant_row as plan_Layout_variant_row, term_row as plan_Layout_term_row, binding_row as plan_Layout_binding_row, block_row as plan_Layout_block_row, below as plan_Layout_below, nested as plan_Layout_nested, table as plan_Layout_table, generated_term as plan_Layout_generated_term, generated_terms as plan_Layout_generated_terms, environment as plan_Layout_environment, plan_of as plan_Layout_plan_of, read as plan_Layout_read}
 use Rattle.plan.specs.Lookup.{variants_of as plan_Lookup_variants_of}

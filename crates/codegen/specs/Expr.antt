@@ -1,7 +1,7 @@
 -- Expressions: codegen.rs 915, `emit_expr`, and 1063, `emit_source`. Assumes nothing: these are definitions.
-use Rattle.core.specs.Prelude.{ℕ, zero, suc, Bool, true, false, cond, not, ◌&&◌, List, [], ◌∷◌, ◌++◌, slice_index}
+use Rattle.std.specs.Prelude.{ℕ, zero, suc, Bool, true, false, cond, not, ◌&&◌, List, [], ◌∷◌, ◌++◌, slice_index}
 use Rattle.std.specs.Prelude.{refl}
-use Rattle.plan.specs.Plan.{Fields, unit, named, tuple, Term, Environment}
+use Rattle.plan.specs.Plan.{Fields, Environment}
 use Rattle.plan.specs.Binding.{Binding, BindingRow, ConstBool, ConstInt, ConstPrim, Argument, Extractor, Constructor, Iterator, MakeVariant, MakeStruct, MakeSome, MatchSome, MatchTuple, MatchVariant, ExtractStruct}
 use Rattle.plan.specs.Constraint as constraint
 use Rattle.plan.specs.Constraint.{Constraint}

@@ -1,11 +1,11 @@
 -- The items before the terms: header, context trait and internal types. Lines end in `break 0`.
 -- Assumes nothing: these are definitions.
-use Rattle.core.specs.Prelude.{ℕ, zero, suc, Bool, true, false, cond, not, ◌&&◌, List, [], ◌∷◌, ◌++◌, length}
+use Rattle.std.specs.Prelude.{ℕ, suc, Bool, true, false, cond, ◌&&◌, List, [], ◌∷◌, ◌++◌}
 use Rattle.std.specs.Prelude.{refl}
-use Rattle.plan.specs.Plan.{Options, Field, Fields, unit, named, tuple, Declared, TypeData, Builtin, Primitive, Enum, Struct, Variant, FunctionKind, Term, Environment, Plan}
-use Rattle.plan.specs.Lookup.{type_at, variants_of}
+use Rattle.plan.specs.Plan.{Options, Field, Fields, unit, named, tuple, Declared, TypeData, Builtin, Primitive, Enum, Struct, Variant, Term, Environment, Plan}
+use Rattle.plan.specs.Lookup.{variants_of}
 use Rattle.codegen.specs.Piece.{Piece, fix, file, sym, pos, type, num, brace, unbrace, break}
-use Rattle.codegen.specs.ReturnKind.{ReturnKind, by_return_kind}
+use Rattle.codegen.specs.ReturnKind.{by_return_kind}
 use Rattle.codegen.specs.Sema.{is_ref, ExternalSig, extractor_sig, constructor_sig, is_external}
 
 -- `", "` between

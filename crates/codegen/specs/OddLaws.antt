@@ -1,12 +1,9 @@
 -- The odd count is at most the text's length: an odd literal has at least one byte.
-use Rattle.core.specs.Prelude.{ℕ, zero, suc, ◌+◌, ◌-◌, ◌/◌, ◌%◌, ◌^◌, ◌≤◌, Bool, true, false, cond, ltb, List, [], ◌∷◌, ◌++◌, length}
+use Rattle.std.specs.Prelude.{ℕ, ◌+◌, ◌≤◌, Bool, true, false, cond, List, [], ◌∷◌, length}
 use Rattle.std.proofs.Math.Option.{some, none}
 use Rattle.std.proofs.Common.{arith, length-append}
-use Rattle.text.specs.Codes.{codes}
-use Rattle.text.specs.Digits.{digit, digits, decimal, hexadecimal, signed}
 use Rattle.literal.specs.declared.builtin_type.IntType.{IntType}
-use Rattle.literal.specs.BuiltinType.{int_name, is_signed}
-use Rattle.literal.specs.Literal.{written_bits, rust_int_literal, literal, odd}
+use Rattle.literal.specs.Literal.{rust_int_literal, literal, odd}
 use Rattle.plan.specs.Plan.{Environment, Plan}
 use Rattle.codegen.specs.Piece.{Piece, fix, file, sym, pos, type, quoted_sym, quoted_pos, num, var, new, lit, brace, unbrace, break, bytes, render, odd_piece, odd_pieces}
 use Rattle.codegen.specs.Block.{words, overflow, What, line, edge, Part, line_bytes, what_bytes, part_bytes, text_of, odd_what, odds_of}
@@ -53,7 +50,7 @@ odd_what_le e d k (edge g) = omega arith
 odds_of_le : (e : Environment) (ps : List Part) → odds_of ps ≤ length (text_of e ps)
 unfolding odds_of text_of part_bytes
 odds_of_le e [] = omega arith
-odds_of_le e (p ∷ ps) = rw (length-append, length-append, length-append) (omega (arith, odd_what_le e (p.around + p.base) p.around p.what, odds_of_le e ps))
+odds_of_le e (p ∷ ps) = simp length-append (omega (arith, odd_what_le e (p.around + p.base) p.around p.what, odds_of_le e ps))
 
 pub odds_le : (p : Plan) → odds p ≤ length (terms_text p)
 unfolding odds terms_text

@@ -1,11 +1,11 @@
 -- Patterns: codegen.rs 1077, `emit_constraint`, and 1136, `emit_fields`. Assumes nothing: these are definitions.
-use Rattle.core.specs.Prelude.{ℕ, zero, suc, Bool, true, false, cond, List, [], ◌∷◌, ◌++◌}
+use Rattle.std.specs.Prelude.{ℕ, suc, Bool, true, false, cond, List, [], ◌∷◌, ◌++◌}
 use Rattle.std.specs.Prelude.{refl}
 use Rattle.std.proofs.Math.Option.{Option, some, none}
 use Rattle.plan.specs.Plan.{Fields, Environment}
 use Rattle.plan.specs.Constraint.{Constraint, ConstBool, ConstInt, ConstPrim, Variant, Struct, Some}
 use Rattle.plan.specs.Lookup.{type_at, variant_at, fields_of}
-use Rattle.codegen.specs.Piece.{Piece, fix, sym, type, new, brace, unbrace, break}
+use Rattle.codegen.specs.Piece.{fix, sym, type, new, brace, unbrace, break}
 use Rattle.codegen.specs.Writer.{Marks, insert, Writer, say, mark, ask, ◌▸◌, nothing}
 use Rattle.codegen.specs.Sema.{is_ref, field_name, field_type}
 use Rattle.codegen.specs.Expr.{emit_bool, emit_int}

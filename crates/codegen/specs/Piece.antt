@@ -1,6 +1,6 @@
 -- What a text is made of. Kept apart are a plan's own texts, literals, v-numbers, scopes' braces and the ends of lines.
 -- Assumes nothing: these are definitions.
-use Rattle.core.specs.Prelude.{◌≡◌, ℕ, zero, suc, ◌+◌, ◌*◌, Bool, true, false, cond, not, ◌&&◌, List, [], ◌∷◌, ◌++◌, ◌==◌, slice_index_or}
+use Rattle.std.specs.Prelude.{◌≡◌, ℕ, ◌+◌, ◌*◌, Bool, true, cond, not, ◌&&◌, List, [], ◌∷◌, ◌++◌, ◌==◌, slice_index_or}
 use Prim.Native.String.{String}
 use Rattle.std.proofs.Math.Option.{Option}
 use Rattle.text.specs.Codes.{codes}
@@ -10,7 +10,7 @@ use Rattle.literal.specs.declared.builtin_type.IntType.{IntType}
 use Rattle.literal.specs.BuiltinType.{name}
 use Rattle.literal.specs.Literal.{literal, odd}
 use Rattle.literal.specs.Quote.{quoted}
-use Rattle.plan.specs.Plan.{Declared, TypeData, Builtin, Primitive, Enum, Struct, Environment}
+use Rattle.plan.specs.Plan.{TypeData, Builtin, Primitive, Enum, Struct, Environment}
 use Rattle.plan.specs.Lookup.{type_at}
 
 -- no byte ends a line

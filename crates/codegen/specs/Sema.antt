@@ -1,10 +1,10 @@
 -- Types and signatures as codegen.rs asks for them: sema.rs. Assumes nothing: these are definitions.
-use Rattle.core.specs.Prelude.{ℕ, Bool, true, false, cond, ◌&&◌, List, [], ◌∷◌, ◌++◌, slice_index, slice_index_or}
+use Rattle.std.specs.Prelude.{ℕ, Bool, true, false, cond, ◌&&◌, List, [], ◌∷◌, slice_index, slice_index_or}
 use Rattle.std.specs.Prelude.{refl}
-use Rattle.std.proofs.Math.Option.{Option, some, none}
+use Rattle.std.proofs.Math.Option.{Option, none}
 use Rattle.literal.specs.declared.builtin_type.IntType.{IntType}
 use Rattle.literal.specs.BuiltinType.{builtin_int}
-use Rattle.plan.specs.Plan.{Field, Fields, unit, named, tuple, TypeData, Builtin, Primitive, Enum, Struct, FunctionKind, absent, internal, external, Term, Environment}
+use Rattle.plan.specs.Plan.{Fields, unit, named, tuple, TypeData, Builtin, Primitive, Enum, Struct, FunctionKind, absent, internal, external, Term, Environment}
 use Rattle.plan.specs.Lookup.{type_at}
 use Rattle.codegen.specs.Piece.{Piece, fix, sym, num}
 use Rattle.codegen.specs.ReturnKind.{ReturnKind}

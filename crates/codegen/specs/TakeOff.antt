@@ -1,11 +1,11 @@
 -- Taking closures off: the split text and its plan give the text without closures (document 01, "Taking closures off").
 -- Assumes nothing: these are definitions.
-use Rattle.core.specs.Prelude.{ℕ, zero, suc, ◌*◌, Bool, true, false, cond, ◌&&◌, List, [], ◌∷◌, ◌++◌, length, drop, replicate, ◌==◌, nat_le, nat_lt, slice_index}
+use Rattle.std.specs.Prelude.{ℕ, zero, suc, ◌*◌, Bool, true, false, cond, ◌&&◌, List, [], ◌∷◌, ◌++◌, length, drop, replicate, ◌==◌, nat_le, nat_lt, slice_index}
 use Rattle.std.proofs.Math.Option.{Option, some, none, map}
 use Rattle.text.specs.Codes.{codes}
 use Rattle.text.specs.Split.{starts_with}
 use Rattle.plan.specs.Plan.{Options, Environment, Generated, Plan}
-use Rattle.plan.specs.Row.{ControlFlow, Match, Equal, Loop, Return, Row, step, arm, level}
+use Rattle.plan.specs.Row.{Match, Equal, Loop, Return, Row, step, arm, level}
 use Rattle.plan.specs.Refusal.{Outcome, refused, accepted, outcome}
 use Rattle.codegen.specs.Piece.{plain, breaks}
 use Rattle.codegen.specs.Block.{words, overflow, What, line, edge, Part, arm_count, block_weight}

@@ -1,6 +1,6 @@
 -- Taking closures off, computed for the worked case `closure-numbers`: a definition of the text whose indentation is no spaces is refused
 -- here. The law for every plan is `split-terms-text-becomes-other` of crate splitting.
-use Rattle.core.specs.Prelude.{◌≡◌, false}
+use Rattle.std.specs.Prelude.{◌≡◌, false}
 use Rattle.std.specs.Prelude.{refl}
 use Rattle.text.specs.Digits.{digits as text_Digits_digits, decimal as text_Digits_decimal, hexadecimal as text_Digits_hexadecimal}
 use Rattle.text.specs.Sink.{spaces as text_Sink_spaces}

@@ -1,5 +1,5 @@
 -- Taking closures off takes spaces, and nothing else; where a line has too few, there is no text.
-use Rattle.core.specs.Prelude.{◌≡◌, ℕ, zero, suc, Bool, true, false, cond, List, [], ◌∷◌, ◌++◌, replicate, ◌==◌}
+use Rattle.std.specs.Prelude.{◌≡◌, ℕ, zero, suc, Bool, true, false, cond, List, [], ◌∷◌, ◌++◌, replicate, ◌==◌}
 use Rattle.std.specs.Prelude.{refl}
 use Rattle.std.proofs.Common.{ap₂, eqb-true}
 use Rattle.std.proofs.Math.Option.{some, none, none-ne-some}

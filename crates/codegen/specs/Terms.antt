@@ -1,5 +1,5 @@
 -- The generated terms: codegen.rs 517, `generate_internal_term_constructors`. Assumes nothing: these are definitions.
-use Rattle.core.specs.Prelude.{ℕ, zero, suc, Bool, true, false, cond, ◌&&◌, List, [], ◌∷◌, ◌++◌, replicate, ◌==◌, nat_lt}
+use Rattle.std.specs.Prelude.{ℕ, suc, Bool, true, false, cond, ◌&&◌, List, [], ◌∷◌, ◌++◌, replicate, ◌==◌, nat_lt}
 use Rattle.std.specs.Prelude.{refl}
 use Rattle.std.proofs.Math.Option.{Option, some, none}
 use Rattle.plan.specs.Plan.{Options, Environment, Term, Generated, Plan}

@@ -1,5 +1,5 @@
 -- Writers: what is written, in order, where the marks of references change on the way. Assumes nothing: these are definitions.
-use Rattle.core.specs.Prelude.{ℕ, Bool, true, false, List, [], ◌∷◌, ◌++◌, set, slice_index_or, slice_set}
+use Rattle.std.specs.Prelude.{ℕ, Bool, true, false, List, [], ◌++◌, slice_index_or, slice_set}
 use Rattle.codegen.specs.Piece.{Piece}
 
 -- `is_ref` and `is_bound` of codegen.rs 86: for each binding, whether it is in the set

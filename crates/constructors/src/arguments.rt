@@ -17,7 +17,7 @@ use context::body_context::BodyContext;
 use sema::signature::{ExternalSig, param_count, param_ty};
 use sema::types::is_ref;
 
-#[derive(Drop)]
+#[derive(Clone, Copy)]
 pub enum Found {
     Nothing,
     At(usize),

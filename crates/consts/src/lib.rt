@@ -1,4 +1,6 @@
 // Constants, as expressions and patterns have them, with the count of odd literals.
+#![tactic(auto)]
+
 pub mod pieces;
 
 ghost use Rattle.std.specs.Prelude.{◌≡◌, List, [], ◌∷◌, ℕ};

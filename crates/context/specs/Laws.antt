@@ -1,17 +1,16 @@
 -- The bytes of the definition's parts that begin and end blocks and closures. Assumes nothing.
 use Prim.Native.Nat.{ℕ, zero, suc, ◌+◌}
-use Rattle.std.specs.Prelude.{◌≡◌, Bool, cond, List, [], ◌∷◌, ◌++◌, length, ltb}
+use Rattle.std.specs.Prelude.{◌≡◌, Bool, List, [], ◌∷◌, ◌++◌, length, ltb}
 use Rattle.std.proofs.Math.Path.{refl}
 use Rattle.std.proofs.Common.{sym, ap, ◌∙◌, append-nil, add-zero, lt-ltb}
 use Rattle.std.proofs.Math.Bool.{true, false}
 use Rattle.std.proofs.Math.Option.{Option, some, none}
 use native.Mathlib.Omega.{arith}
-use Rattle.text.specs.Codes.{codes}
 use Rattle.text.specs.Sink.{Puts, view, put}
 use Rattle.text.specs.SinkLaws.{view_held, view_past}
 use Rattle.plan.specs.Plan.{Environment}
 use Rattle.codegen.specs.Piece.{indent, bytes, render, odd_piece, odd_pieces}
-use Rattle.codegen.specs.Block.{gives_false, ends, calls, Part, Purpose, one_arm, arms_of, arm_body, body, Frame, closures, place, end_closure, catchall, end_block, open_closure, iter_overflow_action, line_bytes, edge_bytes, what_bytes, part_bytes, text_of, odd_what, odds_of}
+use Rattle.codegen.specs.Block.{gives_false, ends, calls, Part, Purpose, one_arm, arms_of, arm_body, body, Frame, closures, place, end_closure, catchall, end_block, open_closure, iter_overflow_action, line_bytes, edge_bytes, what_bytes, part_bytes, text_of, odds_of}
 use Rattle.splitting.specs.Lines.{text_append}
 use Rattle.splitting.specs.Simulation.{odds_append}
 use Rattle.emits.specs.Place.{with_sink, place_sink, place_cases}

@@ -1,5 +1,5 @@
 -- Lines put one after the other. Assumes nothing.
-use Rattle.std.specs.Prelude.{ℕ, suc, ◌*◌, ◌≡◌, refl, Bool}
+use Rattle.std.specs.Prelude.{ℕ, suc, ◌*◌, ◌≡◌, Bool}
 use Rattle.std.proofs.Math.Option.{Option}
 use mathlib.Core.List.{List, [], ◌∷◌, ◌++◌, append_assoc}
 use Rattle.text.specs.Codes.{codes}

@@ -7,7 +7,7 @@ use text::number::put_decimal;
 use text::sink::{put_byte, put_bytes, put_indent};
 
 // The closure in a block: its number.
-#[derive(Drop)]
+#[derive(Clone, Copy)]
 pub enum Closure {
     Absent,
     Number(usize),

@@ -6,7 +6,7 @@ ghost use Rattle.context.specs.Context.{New, SetRef, deeper, shallower, counted}
 
 use emits::stablemapset::{empty, insert};
 
-#[derive(Drop)]
+#[derive(Clone, Copy)]
 pub struct Nesting {
     // how deep the next line is
     pub depth: usize,
@@ -15,7 +15,7 @@ pub struct Nesting {
     pub in_closure: bool,
 }
 
-#[derive(Drop)]
+#[derive(Clone, Copy)]
 pub struct BodyContext {
     pub is_ref: [bool; 1024],
     pub is_bound: [bool; 1024],

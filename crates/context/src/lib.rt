@@ -1,3 +1,5 @@
 // What is written around the rows of a block, and what changes from row to row: `BodyContext` of codegen.rs 82.
+#![tactic(auto)]
+
 pub mod block;
 pub mod body_context;

@@ -1,5 +1,5 @@
 -- The definition's lists from the middle on: their next part, and their end. Assumes nothing.
-use Rattle.core.specs.Prelude.{◌≡◌, ℕ, zero, suc, ◌+◌, ◌<◌, ◌≤◌, true, false, List, [], ◌∷◌, ◌++◌, length, get_or, drop}
+use Rattle.std.specs.Prelude.{◌≡◌, ℕ, zero, suc, ◌+◌, ◌<◌, ◌≤◌, true, false, List, [], ◌∷◌, ◌++◌, length, get_or, drop}
 use mathlib.Core.Path.{refl, ap, ◌∙◌}
 use mathlib.Core.Path as Path
 use mathlib.Core.List.{append-nil, append_assoc}

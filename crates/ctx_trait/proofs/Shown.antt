@@ -1,7 +1,8 @@
 -- Pieces shown one after the other, and by loops. Assumes nothing.
-use Rattle.core.specs.Prelude.{◌≡◌, ℕ, cond, List, [], ◌∷◌, ◌++◌, take, drop}
+use Rattle.std.specs.Prelude.{◌≡◌, refl, ℕ, cond, List, [], ◌∷◌, ◌++◌, take, drop}
 use mathlib.Core.Path.{sym}
 use lib.ListN.{take-append-drop}
+use Rattle.text.specs.Codes.{codes}
 use Rattle.text.specs.Sink.{Puts}
 use Rattle.text.specs.SinkLaws.{◌then◌}
 use Rattle.plan.specs.Plan.{FunctionKind, Environment}
@@ -9,7 +10,9 @@ use Rattle.codegen.specs.Piece.{Piece, render}
 use Rattle.codegen.specs.Sema.{ExternalSig, is_external}
 use Rattle.codegen.specs.Items.{generate_trait_sig}
 use Rattle.emits.specs.Emits.{Shows, render_append}
-use Rattle.emits.specs.Pieces.{shows_none}
+use Rattle.emits.specs.Pieces.{shows_none, shows_fix}
+use Rattle.ctx_trait.specs.Parts.{separator}
+use Rattle.ctx_trait.proofs.Lists.{separator_more}
 
 module _ {e : ℕ} {env : Environment} {d : ℕ} {o : List ℕ} {at : ℕ} {o' : List ℕ} {at' : ℕ} where
   -- pieces whose bytes are put at once
@@ -22,6 +25,14 @@ module _ {e : ℕ} {env : Environment} {d : ℕ} {o : List ℕ} {at : ℕ} {o' :
   pub shows_external : {f k : FunctionKind} {g s : ExternalSig} → g ≡ s → f ≡ k
       → Shows e env d (cond (is_external f) (generate_trait_sig env g) []) o at o' at' → Shows e env d (cond (is_external k) (generate_trait_sig env s) []) o at o' at'
   shows_external q r p = rw (← q, ← r) p
+
+-- what stands before a part, by whether it is the first
+pub shows_first_part : {e : ℕ} {env : Environment} (i : ℕ) {o : List ℕ} {at : ℕ} → i ≡ 0 → Shows e env 0 (separator i) o at o at
+unfolding separator
+shows_first_part i q = rw q shows_none
+
+pub shows_later_part : {e : ℕ} {env : Environment} (i : ℕ) {o : List ℕ} {at : ℕ} {o' : List ℕ} {at' : ℕ} → (i ≡ 0 → ⊥) → Puts e (codes ", ") o at o' at' → Shows e env 0 (separator i) o at o' at'
+shows_later_part i f p = rw (separator_more i f) (shows_fix p shows_none)
 
 pub puts_as : {e : ℕ} {t s o : List ℕ} {at : ℕ} {o' : List ℕ} {at' : ℕ} → t ≡ s → Puts e s o at o' at' → Puts e t o at o' at'
 puts_as q p = rw q p

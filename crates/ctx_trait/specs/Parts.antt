@@ -1,5 +1,5 @@
 -- Parts of the definition's texts as the functions write them. Assumes nothing: these are definitions.
-use Rattle.core.specs.Prelude.{ℕ, zero, suc, Bool, cond, List, [], ◌∷◌, ◌++◌}
+use Rattle.std.specs.Prelude.{ℕ, zero, suc, Bool, cond, List, [], ◌∷◌, ◌++◌}
 use Rattle.std.specs.Prelude.{refl}
 use Rattle.plan.specs.Plan.{Term, Environment}
 use Rattle.codegen.specs.Piece.{Piece, fix}

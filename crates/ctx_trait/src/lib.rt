@@ -1,6 +1,8 @@
 // `generate_ctx_trait` of codegen.rs 274, with `generate_trait_sig` and `type_name`.
 // What a contract says, it says of every environment that the buffers hold (`Holds` of the crate sema).
-ghost use Rattle.core.specs.Prelude.{◌≡◌, ℕ, true, false, List, [], ◌∷◌, ◌++◌, length, if◌then◌else◌, slice_index};
+#![tactic(auto)]
+
+ghost use Rattle.std.specs.Prelude.{◌≡◌, ℕ, true, false, List, [], ◌∷◌, ◌++◌, length, if◌then◌else◌, slice_index};
 ghost use Rattle.std.specs.Prelude.{refl};
 ghost use Rattle.plan.specs.Plan.{Environment};
 ghost use Rattle.emits.specs.Emits.{Shows};
@@ -45,6 +47,7 @@ pub fn type_name(
 }
 
 // What stands before the part i of a list.
+#[tactic(auto, using(crate::proofs::Shown::shows_first_part, crate::proofs::Shown::shows_later_part))]
 pub fn put_separator(out: &mut [u8], at: usize, end: usize, i: usize) -> usize
     ensures { (env : Environment) → Shows end env 0 (separator i) out.old at out.new result }
 {
@@ -367,7 +370,6 @@ impl<T> Length for alloc::vec::Vec<T> {
     }
 }
 
-#[derive(Drop)]
 pub struct ContextIterWrapper<I, C> {
     iter: I,
     _ctx: core::marker::PhantomData<C>,

@@ -18,7 +18,7 @@ use Rattle.splitting.specs.Cases.{false_true}
 use Rattle.splitting.specs.Demand3.{number, count}
 use Rattle.read_back.specs.Tokens.{Token, string, integer, joined, piece_tokens, whole_tokens, terms_tokens, odd_count, ReadsBack, Reads, ◌∈◌}
 use Rattle.read_back.specs.Origins.{Origins}
-use Rattle.read_back.specs.Theorems.{whole_text_reads_back, terms_text_reads_back, whole_text_origins, terms_text_origins}
+use Rattle.read_back.proofs.Theorems.{whole_text_reads_back, terms_text_reads_back, whole_text_origins, terms_text_origins}
 use Rattle.emitter.specs.declared.Emitted.{Emitted}
 use Rattle.emitter.specs.declared.Emitted.TheVariants.{Refused, Text}
 use Rattle.emitter.specs.Answered.{Answers}

@@ -6,7 +6,7 @@ use Rattle.plan.specs.Refusal.{accepted, outcome}
 use Rattle.codegen.specs.Answer.{answer, terms_answer}
 use Rattle.read_back.specs.Tokens.{Token, joined, whole_tokens, terms_tokens}
 use Rattle.token_boundaries.specs.Boundary.{TokensStand}
-use Rattle.token_boundaries.specs.Theorems.{whole_tokens_stand, terms_tokens_stand}
+use Rattle.token_boundaries.proofs.Theorems.{whole_tokens_stand, terms_tokens_stand}
 use Rattle.emitter.specs.declared.Emitted.TheVariants.{Text}
 use Rattle.emitter.specs.Answered.{Answers}
 use Rattle.demands.specs.Demand2.{ReadBack, demand_2_read_back, demand_2_read_back_terms}

@@ -16,8 +16,8 @@ use Rattle.codegen.specs.Enclosing.{Encloses}
 use Rattle.codegen.specs.TakeOff.{closures_off, closures_off_terms}
 use Rattle.splitting.specs.Cases.{false_true}
 use Rattle.splitting.specs.Demand3.{SplitPair, SplitBytes, rows_below, split_arms, number, four_lines, edges_at, edges_have_rows, opened_rows, numbers, count, counting, BlockTable}
-use Rattle.splitting.specs.Theorems.{answers_agree, terms_answers_agree, closures_are_those_of_split_arms, closures_have_rows, numbered_in_opening_order, closure_encloses_body, text_by_block_tables}
-use Rattle.splitting.specs.PlanBytes.{bytes_pair}
+use Rattle.splitting.proofs.Theorems.{answers_agree, terms_answers_agree, closures_are_those_of_split_arms, closures_have_rows, numbered_in_opening_order, closure_encloses_body, text_by_block_tables}
+use Rattle.splitting.proofs.PlanBytes.{bytes_pair}
 use Rattle.emitter.specs.declared.Emitted.TheVariants.{Text}
 use Rattle.emitter.specs.Answered.{Answers}
 use Rattle.demands.specs.Calls.{Wrote, wrote}

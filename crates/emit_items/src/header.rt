@@ -1,5 +1,5 @@
 // `generate_header` of codegen.rs 188.
-ghost use Rattle.core.specs.Prelude.{◌≡◌, ℕ, Bool, List, [], ◌∷◌, ◌++◌, if◌then◌else◌};
+ghost use Rattle.std.specs.Prelude.{◌≡◌, ℕ, Bool, List, [], ◌∷◌, ◌++◌, if◌then◌else◌};
 ghost use Rattle.std.specs.Prelude.{refl};
 ghost use Rattle.plan.specs.Plan.{Environment};
 ghost use Rattle.emits.specs.Emits.{Shows};

@@ -1,5 +1,5 @@
 // `generate_internal_types` of codegen.rs 394, with `generate_fields`.
-ghost use Rattle.core.specs.Prelude.{◌≡◌, ℕ, suc, Bool, true, false, cond, List, [], ◌∷◌, ◌++◌, length, if◌then◌else◌, slice_index, slice_index_or};
+ghost use Rattle.std.specs.Prelude.{◌≡◌, ℕ, suc, Bool, true, false, cond, List, [], ◌∷◌, ◌++◌, length, if◌then◌else◌, slice_index, slice_index_or};
 ghost use Rattle.std.specs.Prelude.{refl};
 ghost use Rattle.plan.specs.Plan.{Environment};
 ghost use Rattle.emits.specs.Emits.{Shows};

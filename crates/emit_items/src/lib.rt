@@ -1,9 +1,11 @@
 // The items before the terms: header, context trait and internal types, as codegen.rs writes them.
 // What a contract says, it says of every environment that the buffers hold (`Holds` of the crate sema).
+#![tactic(auto)]
+
 pub mod header;
 pub mod internal_types;
 
-ghost use Rattle.core.specs.Prelude.{◌≡◌, ℕ, List, [], ◌∷◌, ◌++◌};
+ghost use Rattle.std.specs.Prelude.{◌≡◌, ℕ, List, [], ◌∷◌, ◌++◌};
 ghost use Rattle.plan.specs.Plan.{Environment};
 ghost use Rattle.emits.specs.Emits.{Shows};
 ghost use Rattle.sema.specs.Holds.{Holds};

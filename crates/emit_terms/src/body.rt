@@ -52,6 +52,7 @@ fn begin_body(
 }
 
 // Is each level below 8, of the rows from row `first` up to row `last`?
+#[tactic(auto, using(crate::specs::Term::few_next, crate::specs::Term::few_not))]
 fn is_shallow(words: &[u32], rows: &[u32], first: usize, last: usize) -> bool
     ensures { result ≡ every below_eight (rows_from words.now rows.now last first) }
 {

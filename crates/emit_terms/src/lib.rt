@@ -1,3 +1,5 @@
 // The generated terms: codegen.rs 517, `generate_internal_term_constructors`.
+#![tactic(auto)]
+
 pub mod body;
 pub mod term;

@@ -1,5 +1,5 @@
 // `StableSet` of stablemapset.rs, for the numbers of bindings: 1,024 marks, lent as a slice.
-// Contracts speak of the set through `set-of` (specs/Marks.antt) alone.
+// Contracts speak of the set through `set_of` (specs/Marks.antt) alone.
 ghost use Rattle.std.specs.Prelude.{◌≡◌};
 ghost use Rattle.codegen.specs.Writer.{contains, insert};
 ghost use Rattle.codegen.specs.Terms.{no_marks};

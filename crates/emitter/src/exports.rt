@@ -37,24 +37,21 @@ fn tell(r: Emitted, told: &mut [usize]) -> u32
 }
 
 // The whole module.
-#[unsafe(no_mangle)]
-pub extern "C" fn rizhavel_whole(plan: &[u8], out: &mut [u8], told: &mut [usize]) -> u32
+pub fn rizhavel_whole(plan: &[u8], out: &mut [u8], told: &mut [usize]) -> u32
     ensures { Exports (answer plan.now (length out.old)) result out.old out.new told.old told.new }
 {
     tell(super::emit(plan, out), told)
 }
 
 // The text of the generated terms alone.
-#[unsafe(no_mangle)]
-pub extern "C" fn rizhavel_terms(plan: &[u8], out: &mut [u8], told: &mut [usize]) -> u32
+pub fn rizhavel_terms(plan: &[u8], out: &mut [u8], told: &mut [usize]) -> u32
     ensures { Exports (terms_answer plan.now (length out.old)) result out.old out.new told.old told.new }
 {
     tell(super::emit_terms(plan, out), told)
 }
 
 // Header, trait and types alone.
-#[unsafe(no_mangle)]
-pub extern "C" fn rizhavel_items(plan: &[u8], out: &mut [u8], told: &mut [usize]) -> u32
+pub fn rizhavel_items(plan: &[u8], out: &mut [u8], told: &mut [usize]) -> u32
     ensures { Exports (items_answer plan.now (length out.old)) result out.old out.new told.old told.new }
 {
     tell(super::emit_items(plan, out), told)

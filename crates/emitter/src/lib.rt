@@ -1,5 +1,7 @@
 // The entries: from a plan's bytes and a buffer to the answer. They measure, then write: a text that is longer than the buffer is
 // refused before a byte is written.
+#![tactic(auto)]
+
 pub mod exports;
 pub mod reading;
 
@@ -16,7 +18,7 @@ use emits::Written;
 use reader::Laid;
 use text::sink::put_part;
 
-#[derive(Drop)]
+#[derive(Clone, Copy)]
 pub enum Emitted {
     // Document 01's number, 1 to 11. Nothing is written.
     Refused { number: u32 },
@@ -25,7 +27,7 @@ pub enum Emitted {
 }
 
 // Which text is asked for: all of it, the generated terms alone, or what stands before them.
-#[derive(Drop)]
+#[derive(Clone, Copy)]
 pub enum Form {
     Whole,
     Terms,

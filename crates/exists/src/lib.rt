@@ -1,4 +1,6 @@
 // Refusals 5 and 6, and the refusals 4 to 10 in their order.
+#![tactic(auto)]
+
 pub mod counts;
 pub mod environment;
 pub mod generated;

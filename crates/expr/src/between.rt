@@ -28,7 +28,7 @@ use view::binding::{Binding, binding_at};
 use view::list_len;
 
 // Where the writer has come to, the source that is next, and the depth of its lines. A source that is not below its binding is none.
-#[derive(Drop)]
+#[derive(Clone, Copy)]
 pub struct Next {
     pub at: usize,
     pub q: usize,

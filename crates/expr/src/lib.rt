@@ -1,5 +1,7 @@
 // Expressions and sources: `emit_expr` of codegen.rs 915, and `emit_source` of 1063.
 // The marks are lent: those of references change while writing, those of bound bindings are only read.
+#![tactic(auto)]
+
 mod below;
 mod between;
 

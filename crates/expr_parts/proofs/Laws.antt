@@ -138,6 +138,10 @@ returns_others env [] h = refl
 returns_others env (t ∷ []) h = absurd (h refl)
 returns_others env (t ∷ u ∷ ts) h = refl
 
+-- the same of a number of types, a type and an answer that were read
+pub returns_first : (env : Environment) (ts : List ℕ) (n ty : ℕ) (b : Bool) → n ≡ length ts → n ≡ 1 → ty ≡ get_or ts 0 0 → b ≡ is_ref env ty → b ≡ returns_ref env ts
+returns_first env ts n ty b h k q p = p ∙ ap (is_ref env) q ∙ returns_one env ts (sym h ∙ k)
+
 -- ROWS
 
 module _ (words rows tables : List ℕ) where

@@ -1,4 +1,6 @@
 // What an expression is made of beside its sources.
+#![tactic(auto)]
+
 ghost use Rattle.std.specs.Prelude.{ℕ, ◌+◌, ◌≤◌, min, ◌≡◌, refl, cond, not, ◌&&◌, List, [], ◌∷◌, ◌++◌, length, get_or};
 ghost use Rattle.plan.specs.Plan.{Environment};
 ghost use Rattle.codegen.specs.Piece.{fix, sym, type, num, var, break};
@@ -173,6 +175,7 @@ pub fn variant_name(
 }
 
 // Whether a call's result is a reference: one type is returned, and that is one.
+#[tactic(auto, using(crate::proofs::Laws::returns_first, crate::proofs::Laws::returns_others))]
 fn returns_ref(words: &[u32], rows: &[u32], tables: &[u32], sig: ExternalSig) -> bool
     ensures { (env : Environment) (plan index : List ℕ) → Holds env plan words.now rows.now tables.now index → result ≡ returns_ref env (sig_told env sig).ret_tys }
 {

@@ -1,6 +1,6 @@
 -- The scan reads the tables that the definition cuts: lines ended by LF, tables ended by an empty line. Assumes nothing.
 use Prim.Native.Nat.{ℕ, ◌+◌, ◌-◌, ◌≤◌, ◌<◌}
-use mathlib.Core.Path.{◌≡◌, refl, sym, ap, ◌∙◌}
+use mathlib.Core.Path.{subst, ◌≡◌, refl, sym, ap, ◌∙◌}
 use mathlib.Core.Bool.{Bool, true, false, cond}
 use mathlib.Core.List.{List, [], ◌∷◌, ◌++◌, append_assoc}
 use mathlib.Core.Option.{Option, some, none}
@@ -254,7 +254,7 @@ stands_from p (l ∷ ls) =
     let q = p ++ (l ++ (10 ∷ [])) in
     let long : length q ≡ length p + length l + 1 = simp length-append (omega arith) in
     let text : q ++ unlines ls ≡ p ++ (l ++ (10 ∷ unlines ls)) = simp append_assoc in
-    (here, rw (← long, ← text) (stands_from q ls))
+    (here, subst (λ (x : List ℕ). Stands x (length p + length l + 1) ls) text (subst (λ (n : ℕ). Stands (q ++ unlines ls) n ls) long (stands_from q ls)))
 
 pub tables_stand : (s : List ℕ) (ls : List (List ℕ)) (ts : List (List (List ℕ))) → ended (split (eqb 10) s) ≡ some ls → ended (split null ls) ≡ some ts → TablesStand s 0 ts
 unfolding LinesOf GroupsStand

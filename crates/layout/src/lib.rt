@@ -1,4 +1,6 @@
 // The layout of a plan: its tables' rows as words, in one pass over the lines.
+#![tactic(auto)]
+
 ghost use Rattle.std.specs.Prelude.{◌≡◌, false, ◌+◌, ◌-◌, ◌*◌, ◌≤◌, ◌<◌, eqb, length};
 ghost use Rattle.text.specs.Split.{split, same};
 ghost use Rattle.layout.specs.Scan.{sort_at, names, scan, Fill, Whole};
@@ -6,13 +8,14 @@ ghost use Rattle.layout.specs.Scan.{sort_at, names, scan, Fill, Whole};
 use values::Next;
 
 // How many words, rows and tables were written, or that the plan is not laid out as it should be.
-#[derive(Drop)]
+#[derive(Clone, Copy)]
 pub enum Filled {
     To(usize, usize, usize),
     Bad,
 }
 
 // The sort of table i.
+#[tactic(auto, unfolding(crate::specs::Scan::sort_at))]
 pub fn sort_at(i: usize) -> usize
     ensures { result ≡ sort_at i }
 {

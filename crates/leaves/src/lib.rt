@@ -1,5 +1,7 @@
 // The writers of numbers, literals and quoted texts as C functions, for programs in Rust that measure them or compare them with
 // Rust's own. Each has the contract of the function that it calls.
+#![tactic(auto)]
+
 ghost use Rattle.std.specs.Prelude.{◌≡◌, ◌+◌, ◌*◌, ◌^◌, cond, get_or};
 ghost use Rattle.text.specs.Digits.{decimal, signed};
 ghost use Rattle.text.specs.Sink.{Puts};

@@ -1,2 +1,1 @@
-pub mod Lends
-pub mod Lent
+pub mod BlockLaws

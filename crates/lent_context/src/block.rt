@@ -34,7 +34,7 @@ pub fn block_steps_by_value(context: BodyContext, binding: usize, is_ref: bool) 
     crate::by_value::end_block(counted, scope)
 }
 
-#[derive(Drop)]
+#[derive(Clone, Copy)]
 pub struct BothWays {
     pub lent: BodyContext,
     pub by_value: BodyContext,

@@ -1,4 +1,6 @@
 // The levels of blocks, and the tables of one row.
+#![tactic(auto)]
+
 ghost use Rattle.std.specs.Prelude.{◌≡◌, ◌+◌, ◌-◌, ◌≤◌, ◌<◌, [], ◌∷◌, map, length};
 ghost use Rattle.plan.specs.Layout.{nested, steps};
 ghost use Rattle.rows.specs.View.{block_of};
@@ -20,6 +22,7 @@ fn may_stand(code: u8, kind: u32) -> bool
 }
 
 // The code of what may stand below a row of a kind.
+#[tactic(auto, unfolding(crate::specs::Level::below_code))]
 fn below(kind: u32) -> u8
     ensures { result ≡ below_code kind }
 {

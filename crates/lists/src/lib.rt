@@ -1,4 +1,6 @@
 // Lists of a row, from a text into words.
+#![tactic(auto)]
+
 ghost use Rattle.std.specs.Prelude.{◌≡◌, ◌+◌, ◌-◌, eqb};
 ghost use Rattle.std.proofs.Math.Option.{some};
 ghost use Rattle.text.specs.Split.{split};

@@ -6,5 +6,4 @@ pub mod Literal
 pub mod Quote
 pub mod QuoteLaws
 pub mod ReadBack
-pub mod ReadBackLaws
 pub mod Reference

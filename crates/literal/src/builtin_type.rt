@@ -6,7 +6,7 @@ ghost use Rattle.literal.specs.BuiltinType.{all, int_name, name, is_signed, to_u
 
 use text::sink::put_part;
 
-#[derive(Drop)]
+#[derive(Clone, Copy)]
 pub enum IntType {
     U8,
     U16,
@@ -22,7 +22,7 @@ pub enum IntType {
     ISize,
 }
 
-#[derive(Drop)]
+#[derive(Clone, Copy)]
 pub enum BuiltinType {
     Bool,
     Int(IntType),

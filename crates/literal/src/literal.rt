@@ -14,7 +14,7 @@ use text::number::{put_hex, put_signed};
 use text::sink::{put_byte, put_bytes};
 
 // A value of 128 bits in two halves.
-#[derive(Drop)]
+#[derive(Clone, Copy)]
 struct Wide {
     high: u64,
     low: u64,

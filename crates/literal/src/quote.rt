@@ -5,6 +5,7 @@ ghost use Rattle.literal.specs.Quote.{escaped, quoted};
 
 use text::sink::put_byte;
 
+#[tactic(auto, using(crate::proofs::Escapes::puts_quote, crate::proofs::Escapes::puts_backslash, crate::proofs::Escapes::puts_other))]
 fn put_escaped(out: &mut [u8], at: usize, end: usize, byte: u8) -> usize
     ensures { Puts end (escaped (byte ∷ [])) out.old at out.new result }
 {

@@ -8,6 +8,7 @@ ghost use Rattle.emits.specs.Marks.{set_of};
 use emits::stablemapset::insert;
 
 // One binding of a pattern, or `_`.
+#[tactic(auto, using(crate::proofs::Laws::bind_none, crate::proofs::Laws::bind_some))]
 fn bind(bound: &mut [bool], b: usize)
     ensures { set_of bound.new ≡ bind_all (pattern_of b ∷ []) (set_of bound.old) }
 {
@@ -30,6 +31,7 @@ pub fn bind_all(bound: &mut [bool], words: &[u32], rows: &[u32], r: usize)
 }
 
 // Whether row r has a `_`.
+#[tactic(auto, using(crate::proofs::Laws::skipped_here, crate::proofs::Laws::skipped_later))]
 pub fn skipped_some(words: &[u32], rows: &[u32], r: usize) -> bool
     ensures { result ≡ skipped_some (patterns_in (drop 7 (cut words.now rows.now r))) }
 {

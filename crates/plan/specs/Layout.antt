@@ -1,6 +1,6 @@
 -- The layout of a plan (refusal 3): document 01, "The plan", and the readings 1 to 28 of docs/DECISIONS.md.
 -- Bytes are cut into lines, lines into tables, a row into values, a list into items. Assumes nothing: these are definitions.
-use Rattle.std.specs.Prelude.{ℕ, zero, suc, ◌+◌, ◌-◌, ◌*◌, min, Bool, true, false, cond, not, ◌&&◌, ◌||◌, List, [], ◌∷◌, ◌++◌, leb, ltb, eqb, length, get_or, take, drop}
+use Rattle.std.specs.Prelude.{ℕ, suc, ◌+◌, ◌-◌, ◌*◌, min, Bool, true, false, cond, not, ◌&&◌, ◌||◌, List, [], ◌∷◌, ◌++◌, leb, ltb, eqb, length, get_or, take, drop}
 use Prim.Native.String.{String}
 use Rattle.std.proofs.Math.Option.{Option, some, none}
 use Rattle.text.specs.Codes.{codes}

@@ -1,9 +1,9 @@
 -- What the row numbers of a plan stand for. A row that doesn't exist gives some row: refusal 5 shuts such plans out.
 -- Assumes nothing: these are definitions.
-use Rattle.std.specs.Prelude.{ℕ, Bool, true, false, cond, List, [], ◌∷◌, eqb, length, get_or}
+use Rattle.std.specs.Prelude.{ℕ, false, cond, List, [], ◌∷◌, eqb, length, get_or}
 use Rattle.std.proofs.Math.Option.{Option, some, none}
 use Rattle.literal.specs.declared.builtin_type.BuiltinType.TheVariants as builtin
-use Rattle.plan.specs.Plan.{Field, Fields, unit, named, tuple, Declared, TypeData, Builtin, Primitive, Enum, Struct, Variant, absent, Term, Environment}
+use Rattle.plan.specs.Plan.{Fields, unit, named, tuple, TypeData, Builtin, Primitive, Enum, Struct, Variant, absent, Term, Environment}
 use Rattle.plan.specs.Binding.{Binding, BindingRow, ConstBool, ConstInt, ConstPrim, Argument, Extractor, Constructor, Iterator, MakeVariant, MakeStruct, MakeSome, MatchSome, MatchTuple, MatchVariant, ExtractStruct}
 
 -- `typeenv.types[ty.index()]`

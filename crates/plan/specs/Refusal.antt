@@ -1,8 +1,8 @@
 -- Turning a plan away: document 01, "The answer, and turning a plan away", refusals 1 to 10.
 -- One definition for each number, true where the plan passes. Assumes nothing: these are definitions.
-use Rattle.std.specs.Prelude.{ℕ, zero, suc, ◌+◌, Bool, true, false, cond, not, ◌&&◌, ◌||◌, List, [], ◌∷◌, ◌++◌, leb, ltb, eqb, length}
+use Rattle.std.specs.Prelude.{ℕ, suc, Bool, true, false, cond, not, ◌&&◌, ◌||◌, List, [], ◌∷◌, leb, ltb, eqb, length}
 use Rattle.std.proofs.Math.Option.{Option, some, none}
-use Rattle.plan.specs.Plan.{Field, Fields, unit, named, tuple, Declared, TypeData, Builtin, Primitive, Enum, Struct, Variant, FunctionKind, absent, internal, external, Term, Generated, Environment, Plan}
+use Rattle.plan.specs.Plan.{Fields, unit, named, tuple, Declared, TypeData, Builtin, Primitive, Enum, Struct, Variant, FunctionKind, absent, internal, external, Term, Generated, Environment, Plan}
 use Rattle.plan.specs.Binding.{Binding, BindingRow, ConstBool, ConstInt, ConstPrim, Argument, Extractor, Constructor, Iterator, MakeVariant, MakeStruct, MakeSome, MatchSome, MatchTuple, MatchVariant, ExtractStruct}
 use Rattle.plan.specs.Constraint as constraint
 use Rattle.plan.specs.Constraint.{Constraint}

@@ -1,11 +1,15 @@
 // What the programs print, in the first bytes of the buffer that they lend: each function returns how many.
-ghost use Rattle.std.specs.Prelude.{◌≡◌, length, take};
+#![tactic(auto)]
+
+ghost use Rattle.std.specs.Prelude.{◌≡◌, ◌≤◌, IfOk, length, take};
 ghost use Rattle.codegen.specs.Answer.{answer, terms_answer};
 ghost use Rattle.emitter.specs.Answered.{items_answer};
 ghost use Rattle.plan.specs.Refusal.{refusal};
 ghost use Rattle.programs.specs.Printed.{refused_line, accepted_line, verdict, printed, count_line, counted, shown};
 
 use emitter::Emitted;
+use std::io;
+use std::io::{ErrorKind, Print, Read};
 use text::number::put_decimal;
 use text::sink::{put_byte, put_bytes};
 
@@ -105,6 +109,32 @@ pub fn first(out: &[u8], n: usize) -> &[u8]
 }
 
 // Prints the first n bytes. No contract can say what is written.
-pub fn print(out: &[u8; 65536], n: usize) {
-    io::write_all(1, first(out, n));
+pub fn print(rt: &impl Print, out: &[u8; 65536], n: usize) -> io::Result<()> {
+    rt.write_all(first(out, n))
+}
+
+// Reads until the buffer is full or the input ends: how many bytes it put at the start of the buffer.
+pub fn read_full<R: Read>(input: &mut R, buf: &mut [u8]) -> io::Result<usize>
+    ensures { IfOk result (λ n. n ≤ length buf.new) }
+{
+    let mut done = 0;
+    for _ in 0..u64::MAX {
+        if buf.len() <= done {
+            return Ok(done);
+        }
+        match input.read(&mut buf[done..]) {
+            Ok(n) => {
+                if n == 0 {
+                    return Ok(done);
+                }
+                done += n;
+            }
+            Err(e) => {
+                if e.kind() != ErrorKind::Interrupted {
+                    return Err(e);
+                }
+            }
+        }
+    }
+    Ok(done)
 }

@@ -1,8 +1,3 @@
 pub mod Tokens
 pub mod Origins
-pub mod Theorems
-pub mod TokenLaws
-pub mod TokenOrigins
 pub mod ValueLaws
-pub mod Accepted
-pub mod ReadLaws

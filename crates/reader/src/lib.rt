@@ -1,4 +1,6 @@
 // A plan's bytes into the reader's buffers: refusals 1 to 3.
+#![tactic(auto)]
+
 ghost use Rattle.std.specs.Prelude.{◌≡◌};
 ghost use Rattle.plan.specs.Refusal.{allowed, bytes_allowed};
 ghost use Rattle.reader.specs.Reading.{reading, Room, Says, Keeps};
@@ -7,7 +9,7 @@ use layout::Filled;
 use tokens::both;
 
 // The number of a refusal, or how many rows and tables the buffers hold.
-#[derive(Drop)]
+#[derive(Clone, Copy)]
 pub enum Laid {
     Refused(u32),
     Held(usize, usize),

@@ -1,4 +1,6 @@
 // The lowest refusal of a plan as a C function, for the Rust side.
+#![tactic(auto)]
+
 ghost use Rattle.std.specs.Prelude.{◌≡◌};
 ghost use Rattle.plan.specs.Refusal.{refusal};
 

@@ -1,4 +1,6 @@
 // The refusals 1 to 10 of a plan.
+#![tactic(auto)]
+
 ghost use Rattle.std.specs.Prelude.{◌≡◌, List, ℕ, ◌+◌, ◌≤◌, ◌<◌, length, take};
 ghost use Rattle.plan.specs.Refusal.{Outcome, judged, number_of, outcome, refusal};
 ghost use Rattle.reader.specs.Reading.{Room, Says, Keeps};

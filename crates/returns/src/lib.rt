@@ -1,4 +1,6 @@
 // A return, with its rule, logging and limit: codegen.rs 816.
+#![tactic(auto)]
+
 ghost use Rattle.std.specs.Prelude.{◌≡◌, refl, true, List, [], ◌∷◌, ℕ, suc, ◌+◌, ◌<◌, ltb, length};
 ghost use Rattle.std.proofs.Math.Option.{some};
 ghost use Rattle.plan.specs.Plan.{Environment};

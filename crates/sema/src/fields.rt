@@ -14,14 +14,14 @@ use literal::builtin_type::BuiltinType;
 use text::number::put_decimal;
 use view::environment::Shape;
 
-#[derive(Drop)]
+#[derive(Clone, Copy)]
 pub struct Fields {
     pub shape: Shape,
     pub row: usize,
     pub header: usize,
 }
 
-#[derive(Drop)]
+#[derive(Clone, Copy)]
 pub struct Variant {
     pub name: usize,
     pub fields: Fields,
@@ -56,6 +56,7 @@ pub fn fields_of(words: &[u32], rows: &[u32], tables: &[u32], n: usize) -> Field
 }
 
 // How many variants the enum n has.
+#[tactic(auto, using(crate::proofs::Laws::variants_none, crate::proofs::Laws::variants_numbered))]
 pub fn variant_count(index: &[u32], n: usize) -> usize
     ensures { (env : Environment) (plan words rows tables : List ℕ) → Holds env plan words rows tables index.now → result ≡ length (variants_of n env.variants) }
 {

@@ -15,14 +15,14 @@ use super::names::put_sym;
 use text::sink::put_bytes;
 use view::environment::FunctionKind;
 
-#[derive(Drop)]
+#[derive(Clone, Copy)]
 pub enum ReturnKind {
     Iterator,
     Option,
     Plain,
 }
 
-#[derive(Drop)]
+#[derive(Clone, Copy)]
 pub struct ExternalSig {
     pub term: usize,
     pub is_extractor: bool,

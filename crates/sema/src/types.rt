@@ -13,7 +13,7 @@ use literal::builtin_type::BuiltinType;
 use view::environment::TypeData;
 
 // A type, and its row, whose list has a struct's fields.
-#[derive(Drop)]
+#[derive(Clone, Copy)]
 pub struct TypeRow {
     pub ty: TypeData,
     pub row: usize,

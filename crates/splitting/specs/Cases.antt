@@ -1,6 +1,6 @@
 -- Proofs by cases on tests.
 use Rattle.std.specs.Prelude.{ℕ, ◌<◌, ◌≤◌, ◌≡◌, refl, Bool, true, false, ◌&&◌, List, [], ◌∷◌, leb}
-use Rattle.std.proofs.Math.Option.{Option, some, none}
+use Rattle.std.proofs.Math.Option.{some, none}
 use Rattle.std.proofs.Common.{arith, leb-true, leb-false}
 
 pub and_left : (a b : Bool) → a && b ≡ true → a ≡ true

@@ -1,5 +1,4 @@
 pub mod Demand3
-pub mod Theorems
 pub mod Cases
 pub mod Simulation
 pub mod Plains
@@ -9,12 +8,7 @@ pub mod TermsLaw
 pub mod WholeLaw
 pub mod Shape
 pub mod Accepted
-pub mod PlanBytes
 pub mod Closures
-pub mod SplitArms
-pub mod Openings
-pub mod Walk
-pub mod Enclosed
 pub mod Continue
 pub mod Blocks
 pub mod Marks

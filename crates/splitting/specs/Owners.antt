@@ -5,8 +5,8 @@ use Rattle.std.proofs.Math.Option.{Option, some, none}
 use Rattle.std.proofs.lemmas.Bool.{eqb-false}
 use Rattle.plan.specs.Constraint.{Constraint}
 use Rattle.plan.specs.Row.{Match, Equal, Loop, Return, Row, step, arm, level}
-use Rattle.codegen.specs.Block.{Body, Line, Part, Purpose, one_arm, arms_of, arm_body, body, Frame, State, Own, arm_count, block_weight, closure_count, closures, purpose_of, place, end_closure, catchall, end_block, closing, left, restored, is_arm_body, numbered, pushed, open_closure, row_parts, after, own, emit_check, matching, opening, nothing_written, returning, emit_arm, here, splits_here, next, written, walk}
-use Rattle.codegen.specs.TakeOff.{Above, arms_above, arms_of_row, is_arm, splits_arm, lower, belows, Tag, part_tags}
+use Rattle.codegen.specs.Block.{Body, Line, line, Part, Purpose, one_arm, arms_of, arm_body, body, Frame, State, Own, arm_count, block_weight, closure_count, closures, purpose_of, place, end_closure, catchall, end_block, closing, left, restored, is_arm_body, numbered, pushed, open_closure, row_parts, after, own, emit_check, matching, opening, nothing_written, returning, emit_arm, here, splits_here, next, written, walk}
+use Rattle.codegen.specs.TakeOff.{line_tags, Above, arms_above, arms_of_row, is_arm, splits_arm, lower, belows, Tag, part_tags}
 use Rattle.splitting.specs.Cases.{and_left, and_right, by_bool, by_leb, false_true, empty_cons}
 use Rattle.splitting.specs.Lines.{around_tags}
 
@@ -221,7 +221,7 @@ same_append bs ps qs f g = tag_append bs ps qs ∙ ap₂ (λ (x y : List Tag). x
 same_place : (bs : List ℕ) (i : ℕ) (fs : List Frame) (ls : List Line) → get_or bs i 0 ≡ closures fs → Same bs (place (some i) fs ls)
 unfolding Same part_tags around_tags place
 same_place bs i fs [] h = refl
-same_place bs i fs (l ∷ ls) h = rw (same_place bs i fs ls h, h)
+same_place bs i fs (l ∷ ls) h = ap₂ (λ (x y : List Tag). x ++ y) (ap (λ n. line_tags n (line l)) h) (same_place bs i fs ls h)
 
 same_open_closure : (bs : List ℕ) (i : ℕ) (fs : List Frame) (b : Bool) → Same bs (open_closure i fs b)
 unfolding Same part_tags around_tags open_closure

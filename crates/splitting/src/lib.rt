@@ -1,1 +1,2 @@
 // Laws over the definition of the text, in specs/: Demand3 has their statements. Nothing here runs.
+#![tactic(auto)]

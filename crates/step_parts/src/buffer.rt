@@ -21,7 +21,7 @@ use view::binding::{Binding, binding_at};
 use view::environment::FunctionKind;
 
 // What a binding calls.
-#[derive(Drop)]
+#[derive(Clone, Copy)]
 pub enum Callee {
     Nothing,
     Extractor(usize),

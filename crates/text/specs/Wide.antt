@@ -1,7 +1,7 @@
 -- Numbers of 128 bits in two halves: in hexadecimal, in decimal by groups of eight digits, and as a two's complement.
 use Rattle.std.specs.Prelude.{ℕ, suc, ◌+◌, ◌-◌, ◌*◌, ◌/◌, ◌%◌, ◌^◌, ◌≤◌, ◌<◌, ◌≡◌, ◌∷◌, ◌++◌}
 use Rattle.std.proofs.Common.{ap, ◌∙◌, append_assoc, mul-le-mul_right, lt_of_lt_of_le, le_trans, arith, lt-ltb, le-ltb}
-use Rattle.text.specs.Digits.{digits, decimal, hexadecimal, signed}
+use Rattle.text.specs.Digits.{decimal, hexadecimal, signed}
 use Rattle.text.specs.DigitsLaws.{padded, digits_split}
 
 -- n in groups of eight decimal digits

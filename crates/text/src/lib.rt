@@ -1,3 +1,5 @@
 // Texts put into a lent buffer, or only measured: bytes, runs of spaces and numbers.
+#![tactic(auto)]
+
 pub mod number;
 pub mod sink;

@@ -10,7 +10,7 @@ ghost use Rattle.text.specs.Wide.{Grouped};
 use super::sink::{put_byte, put_bytes};
 
 // A number of 128 bits in groups of eight decimal digits, the last one in `low`.
-#[derive(Drop)]
+#[derive(Clone, Copy)]
 struct Groups {
     top: u64,
     high: u64,
@@ -196,6 +196,7 @@ pub fn put_decimal_wide(out: &mut [u8], at: usize, end: usize, high: u64, low: u
 }
 
 // The two's complement high * 2^64 + low of 128 bits as a signed decimal.
+#[tactic(auto, using(crate::proofs::Signs::puts_plus, crate::proofs::Signs::puts_minus_high, crate::proofs::Signs::puts_minus_low))]
 pub fn put_signed(out: &mut [u8], at: usize, end: usize, high: u64, low: u64) -> usize
     ensures { Puts end (signed 128 (high * 2 ^ 64 + low)) out.old at out.new result }
 {

@@ -90,6 +90,7 @@ pub fn put_spaces(out: &mut [u8], at: usize, end: usize, n: usize) -> usize
 }
 
 // Four spaces for each level of depth. More levels than this test lets through have no room in any buffer.
+#[tactic(auto, using(crate::specs::SinkLaws::puts_past, crate::specs::SinkLaws::length_spaces))]
 pub fn put_indent(out: &mut [u8], at: usize, end: usize, depth: usize) -> usize
     ensures { Puts end (spaces (4 * depth)) out.old at out.new result }
 {

@@ -1,9 +1,3 @@
 pub mod Lexing
 pub mod Boundary
-pub mod Theorems
-pub mod BoundaryLaws
-pub mod LexingLaws
 pub mod PieceBoundaries
-pub mod ExprBoundaries
-pub mod BlockBoundaries
-pub mod TokenBoundaries

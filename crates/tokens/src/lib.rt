@@ -1,11 +1,13 @@
 // Tokens of a text: columns of a line, names, numbers.
+#![tactic(auto)]
+
 ghost use Rattle.std.specs.Prelude.{◌≡◌, true, false, cond, ◌&&◌, ◌||◌, ◌+◌, ◌-◌, ◌*◌, ◌≤◌, ◌<◌, min, [], eqb, length, drop, get_or};
 ghost use Rattle.text.specs.Split.{split, same};
 ghost use Rattle.plan.specs.Layout.{number, beyond, hex_digit, hex_digits, hex_from};
 ghost use Rattle.tokens.specs.Token.{until, Columns, place, named, rising, numeral, hex_value, hex_numeral, told};
 
 // What a text says as a number.
-#[derive(Drop)]
+#[derive(Clone, Copy)]
 pub enum Number {
     Value(u32),
     Wrong,
@@ -178,6 +180,7 @@ fn read_digits(t: &[u8]) -> Number
 }
 
 // The number that a text says: digits, with no 0 before another.
+#[tactic(auto, using(crate::proofs::Laws::number_none, crate::proofs::Laws::number_one, crate::proofs::Laws::number_zero, crate::proofs::Laws::number_more), unfolding(crate::specs::Token::told))]
 pub fn read_number(t: &[u8]) -> Number
     ensures { result ≡ told (number t.now) }
 {

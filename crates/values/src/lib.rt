@@ -1,4 +1,6 @@
 // The values of a row, from a text into words.
+#![tactic(auto)]
+
 ghost use Rattle.std.specs.Prelude.{◌≡◌, ◌+◌, ◌-◌, ◌≤◌, ◌<◌};
 ghost use Rattle.plan.specs.Layout.{◌⊛◌, number_to, function_kind, bit};
 ghost use Rattle.std.proofs.Math.Option.{some};
@@ -9,7 +11,7 @@ ghost use Rattle.values.specs.Value.{flag, function_word, threshold, cell, wide_
 use tokens::Number;
 
 // Where the next word goes, or that the text so far says no words.
-#[derive(Drop)]
+#[derive(Clone, Copy)]
 pub enum Next {
     At(usize),
     No,

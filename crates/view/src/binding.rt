@@ -4,7 +4,7 @@ ghost use Rattle.rows.specs.View.{nth, binding_of};
 ghost use Rattle.layout.specs.View.{cut};
 ghost use Rattle.view.specs.Told.{binding_told};
 
-#[derive(Drop)]
+#[derive(Clone, Copy)]
 pub enum Binding {
     ConstBool { val: bool },
     ConstInt { ty: usize, high: u64, low: u64 },

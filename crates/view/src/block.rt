@@ -4,7 +4,7 @@ ghost use Rattle.rows.specs.View.{nth};
 ghost use Rattle.layout.specs.View.{cut};
 ghost use Rattle.view.specs.Told.{constraint_told, constraint_of, control_flow_told, control_flow_of};
 
-#[derive(Drop)]
+#[derive(Clone, Copy)]
 pub enum ControlFlow {
     Match { source: usize },
     Equal { a: usize, b: usize },
@@ -12,7 +12,7 @@ pub enum ControlFlow {
     Return { result: usize, pos: usize },
 }
 
-#[derive(Drop)]
+#[derive(Clone, Copy)]
 pub enum Constraint {
     ConstBool { val: bool },
     ConstInt { ty: usize, high: u64, low: u64 },

@@ -8,14 +8,14 @@ ghost use Rattle.view.specs.Told.{function_told, fields_told, type_told, variant
 use literal::builtin_type::BuiltinType;
 
 // A term's constructor or extractor.
-#[derive(Drop)]
+#[derive(Clone, Copy)]
 pub enum FunctionKind {
     Absent,
     Internal,
     External { name: usize },
 }
 
-#[derive(Drop)]
+#[derive(Clone, Copy)]
 pub enum Shape {
     Unit,
     Named,
@@ -23,7 +23,7 @@ pub enum Shape {
 }
 
 // What an enum and a struct have in common.
-#[derive(Drop)]
+#[derive(Clone, Copy)]
 pub struct Declared {
     pub name: usize,
     pub is_extern: bool,
@@ -31,7 +31,7 @@ pub struct Declared {
     pub pos: usize,
 }
 
-#[derive(Drop)]
+#[derive(Clone, Copy)]
 pub enum TypeData {
     Builtin(BuiltinType),
     Primitive(usize),
@@ -40,7 +40,7 @@ pub enum TypeData {
 }
 
 // A variant, without its fields, which are the row's list.
-#[derive(Drop)]
+#[derive(Clone, Copy)]
 pub struct Variant {
     pub ty: usize,
     pub name: usize,
@@ -48,7 +48,7 @@ pub struct Variant {
 }
 
 // A term, without the types of its arguments, which are the row's list.
-#[derive(Drop)]
+#[derive(Clone, Copy)]
 pub struct Term {
     pub name: usize,
     pub pos: usize,

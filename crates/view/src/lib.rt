@@ -1,5 +1,7 @@
 // Reads rows out of the buffers that the layout fills: `words`, `rows` (where each row's words end) and `tables` (where each
 // table's rows end). Nothing is asked of the buffers: what is not there reads as 0.
+#![tactic(auto)]
+
 pub mod binding;
 pub mod block;
 pub mod environment;
@@ -58,6 +60,7 @@ pub fn row<'a>(words: &'a [u32], rows: &[u32], r: usize) -> &'a [u32]
 }
 
 // The word k of a row's words, 0 past their end.
+#[tactic(auto, using(crate::proofs::Laws::past))]
 pub fn word_in(row: &[u32], k: usize) -> u32
     ensures { result ≡ nth row.now k }
 {

@@ -1,4 +1,6 @@
 // The structure of a block's rows: how many arms a match has, which rows stand below a row, and how much they weigh.
+#![tactic(auto)]
+
 ghost use Rattle.std.specs.Prelude.{◌≡◌, map, ◌+◌, ◌-◌, ◌<◌, length};
 ghost use Rattle.plan.specs.Row.{level};
 ghost use Rattle.codegen.specs.Block.{arm_count, block_weight};

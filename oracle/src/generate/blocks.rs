@@ -64,7 +64,7 @@ impl Blocks<'_> {
 
     // Scheduled blocks.
 
-    fn scheduled_root(&mut self) -> Block {
+    pub fn scheduled_root(&mut self) -> Block {
         let scope = self.bindings.add_arguments();
         let mut block = self.scheduled(scope, 0);
         if self.chance(10) {

@@ -157,6 +157,7 @@ pub const FEATURES: &[&str] = &[
     "use of an unbound binding",
     "use of a binding out of scope",
     "binding bound again",
+    "use of a binding that a one-arm match binds",
     "match on a binding that its own arm binds",
     "iterator call by external extract bound",
     "iterator call by internal extract bound",
@@ -222,6 +223,57 @@ pub const SPLIT: &[&str] = &[
     "one-arm match above the threshold",
     "split 1 without a closure in an iterator term",
     "odd literals",
+];
+
+/// Those that plans without a schedule fault are made for.
+pub const SCHEDULE: &[&str] = &[
+    "option split 1",
+    "generated Plain",
+    "generated Option",
+    "generated Iterator",
+    "generated twice",
+    "several generated terms",
+    "binding bool",
+    "binding int",
+    "binding prim",
+    "binding arg",
+    "binding extract",
+    "binding construct",
+    "binding iter",
+    "binding variant",
+    "binding struct",
+    "binding some",
+    "binding matchsome",
+    "binding matchtuple",
+    "binding matchvariant",
+    "binding extractstruct",
+    "step match",
+    "step equal",
+    "step loop",
+    "step return",
+    "arm bool",
+    "arm int",
+    "arm prim",
+    "arm variant",
+    "arm struct",
+    "arm some",
+    "arm with _",
+    "match with one arm",
+    "match with several arms",
+    "several returns in a block",
+    "use of a bound binding",
+    "use of an unbound binding",
+    "use of a binding out of scope",
+    "binding bound again",
+    "use of a binding that a one-arm match binds",
+    "match on a binding that its own arm binds",
+    "iterator call by external extract bound",
+    "iterator call by internal extract bound",
+    "iterator call by external construct bound",
+    "iterator call by internal construct bound",
+    "iterator call bound again",
+    "loop over a bound source",
+    "arm that splits",
 ];
 
 /// What the answers add to the features.
@@ -487,6 +539,7 @@ impl Features {
             plan,
             bindings: &generated.bindings,
             bound: BTreeSet::new(),
+            by_pattern: BTreeSet::new(),
             ever: BTreeSet::new(),
             deepest: 0,
         };
@@ -693,6 +746,8 @@ struct Walk<'a> {
     plan: &'a Plan,
     bindings: &'a [Binding],
     bound: BTreeSet<usize>,
+    /// Those that the patterns of one-arm matches bound.
+    by_pattern: BTreeSet<usize>,
     ever: BTreeSet<usize>,
     deepest: usize,
 }
@@ -714,6 +769,10 @@ impl Walk<'_> {
         let unbound_call = !self.bound.contains(&binding) && self.iterator_call(binding).is_some();
         self.features
             .add_if(unbound_call, "iterator call not bound");
+        self.features.add_if(
+            self.by_pattern.contains(&binding),
+            "use of a binding that a one-arm match binds",
+        );
     }
 
     /// The feature of an iterator call that is bound.
@@ -824,9 +883,14 @@ impl Walk<'_> {
         let different: BTreeSet<_> = rows.iter().collect();
         self.features
             .add_if(different.len() < rows.len(), "match with equal arms");
+        let outer = self.by_pattern.clone();
+        if let [arm] = arms {
+            self.by_pattern.extend(arm.bindings.iter().flatten());
+        }
         for arm in arms {
             self.arm(source, arm, level + 1);
         }
+        self.by_pattern = outer;
     }
 
     fn arm(&mut self, source: usize, arm: &Arm, level: usize) {

@@ -1,12 +1,15 @@
 //! The program without `--cfg coverage` has nothing to count with.
 
 use crate::damaged::Damaged;
+use crate::near::Near;
 use crate::pairs::Pair;
 use crate::rows::Plan;
 
 pub enum Wanted {
     All,
     Split,
+    Schedule,
+    Changes,
     Nothing,
 }
 
@@ -19,6 +22,10 @@ impl Report {
     pub fn pair(&mut self, _: u64, _: &Pair) {}
 
     pub fn damaged(&mut self, _: u64, _: &Damaged) {}
+
+    pub fn without_fault(&mut self, _: u64, _: &Plan) {}
+
+    pub fn near(&mut self, _: u64, _: &Near) {}
 
     pub fn print_accepted(&self, _: Wanted) -> bool {
         self.print_damaged()

@@ -2,14 +2,20 @@
 
 use crate::damaged::Damaged;
 use crate::faults::FAULTS;
-use crate::features::{ANSWERS, FEATURES, Features, SPLIT};
+use crate::features::{ANSWERS, FEATURES, Features, SCHEDULE, SPLIT};
+use crate::near::{CHANGES, Near};
 use crate::pairs::Pair;
 use crate::rows::Plan;
 use crate::valid::MOST_BYTES;
 use oracle::answer::{Answer, Form, answer, check};
 use oracle::coverage;
+use oracle::schedule::{Schedule, schedule};
 use std::collections::BTreeMap;
 use std::fmt::Write;
+
+const LETTERS: [(&str, char); 3] = [("fault a", 'a'), ("fault b", 'b'), ("fault c", 'c')];
+const NO_FAULT: &str = "no fault";
+const TOO_LONG: &str = "text too long to watch";
 
 /// What a run is to reach.
 #[derive(Clone, Copy, PartialEq)]
@@ -17,6 +23,10 @@ pub enum Wanted {
     All,
     /// What pairs are made for.
     Split,
+    /// What plans without a schedule fault are made for.
+    Schedule,
+    /// What near misses are made for.
+    Changes,
     Nothing,
 }
 
@@ -29,6 +39,10 @@ pub struct Report {
     faults: BTreeMap<&'static str, u64>,
     /// Sets of the numbers of several faults at once, and the refusal.
     together: BTreeMap<String, u64>,
+    /// Schedule faults by letter, and the plans without a fault or with a text too long to watch.
+    schedules: BTreeMap<&'static str, u64>,
+    /// Changes of near misses: plans with a fault, without one, and with a text too long.
+    changes: BTreeMap<&'static str, [u64; 3]>,
     wrong: Vec<String>,
 }
 
@@ -79,6 +93,42 @@ impl Report {
         self.accepted(index, plan);
     }
 
+    fn schedule(&mut self, plan: &Plan) -> Schedule {
+        let found = schedule(&plan.bytes());
+        let mut count = |name, plans| *self.schedules.entry(name).or_default() += plans;
+        match &found {
+            Schedule::Refused(_) => {}
+            Schedule::TooLong => count(TOO_LONG, 1),
+            Schedule::Faults(faults) if faults.is_empty() => count(NO_FAULT, 1),
+            Schedule::Faults(faults) => {
+                for (name, letter) in LETTERS {
+                    let of_letter = faults.iter().filter(|fault| fault.letter == letter);
+                    count(name, of_letter.count() as u64);
+                }
+            }
+        }
+        found
+    }
+
+    /// A plan that is made to have no schedule fault.
+    pub fn without_fault(&mut self, index: u64, plan: &Plan) {
+        self.accepted(index, plan);
+        let found = self.schedule(plan);
+        if matches!(&found, Schedule::Faults(faults) if !faults.is_empty()) {
+            self.wrong.push(format!("plan {index} has faults: {found}"));
+        }
+    }
+
+    pub fn near(&mut self, index: u64, near: &Near) {
+        self.accepted(index, &near.plan);
+        let at = match self.schedule(&near.plan) {
+            Schedule::Faults(faults) if !faults.is_empty() => 0,
+            Schedule::Faults(_) => 1,
+            Schedule::Refused(_) | Schedule::TooLong => 2,
+        };
+        self.changes.entry(near.change).or_default()[at] += 1;
+    }
+
     pub fn pair(&mut self, index: u64, pair: &Pair) {
         let off = self.accepted(index, &pair.off);
         let on = self.accepted(index, &pair.on);
@@ -119,6 +169,7 @@ impl Report {
         let mut table = Table::default();
         self.lines(&mut table, wanted);
         self.features(&mut table, wanted);
+        self.schedules(&mut table, wanted);
         let mut text = table.text;
         for (name, least, most, count) in self.features.sizes_seen() {
             let _ = writeln!(
@@ -150,9 +201,29 @@ impl Report {
             let is_wanted = match wanted {
                 Wanted::All => true,
                 Wanted::Split => SPLIT.contains(name),
-                Wanted::Nothing => false,
+                Wanted::Schedule => SCHEDULE.contains(name),
+                Wanted::Changes | Wanted::Nothing => false,
             };
             table.row("plans", self.features.get(name), name, is_wanted);
+        }
+    }
+
+    /// The schedules of plans that are made for them.
+    fn schedules(&self, table: &mut Table, wanted: Wanted) {
+        let is_near = wanted == Wanted::Changes;
+        if !is_near && wanted != Wanted::Schedule {
+            return;
+        }
+        let count = |name| self.schedules.get(name).copied().unwrap_or(0);
+        for (name, _) in LETTERS {
+            table.row("schedules", count(name), name, is_near);
+        }
+        table.row("schedules", count(NO_FAULT), NO_FAULT, true);
+        table.row("schedules", count(TOO_LONG), TOO_LONG, false);
+        for (change, _) in CHANGES.iter().filter(|_| is_near) {
+            let [faulty, good, long] = self.changes.get(change).copied().unwrap_or_default();
+            let what = format!("{change}: {faulty} with a fault, {good} without, {long} too long");
+            table.row("changes", faulty + good + long, &what, true);
         }
     }
 

@@ -6,7 +6,7 @@ use crate::environment::{self, Sizes};
 use crate::explode;
 use crate::limits;
 use crate::random::Random;
-use crate::rows::{Function, Plan};
+use crate::rows::{Function, Generated, Plan};
 use crate::texts::Style;
 
 pub const MOST_BYTES: usize = 65_536;
@@ -66,7 +66,7 @@ pub fn plan(random: &mut Random, profile: &str) -> Plan {
 }
 
 /// The sizes of a profile whose plans have no exact ones.
-fn sizes(profile: &str) -> Sizes {
+pub fn sizes(profile: &str) -> Sizes {
     match profile {
         "types" => Sizes {
             syms: (3, 20),
@@ -163,12 +163,19 @@ fn sizes(profile: &str) -> Sizes {
     }
 }
 
+/// Makes a generated term.
+type Generate = fn(&mut Random, &Plan, &Sizes, usize) -> Generated;
+
 /// A plan of these sizes, with fewer generated terms if it would be too long.
 pub fn sized(random: &mut Random, sizes: &Sizes) -> Plan {
+    sized_with(random, sizes, blocks::generated)
+}
+
+pub fn sized_with(random: &mut Random, sizes: &Sizes, generate: Generate) -> Plan {
     loop {
         let mut plan = environment::environment(random, sizes);
         let count = random.range(sizes.generated.0, sizes.generated.1);
-        add_generated(random, sizes, &mut plan, count);
+        add_generated(random, sizes, &mut plan, count, generate);
         while plan.bytes().len() > MOST_BYTES && plan.generated.pop().is_some() {}
         if plan.bytes().len() <= MOST_BYTES {
             return plan;
@@ -177,7 +184,13 @@ pub fn sized(random: &mut Random, sizes: &Sizes) -> Plan {
 }
 
 /// Terms with a constructor are generated, now and then one of them twice.
-pub fn add_generated(random: &mut Random, sizes: &Sizes, plan: &mut Plan, count: usize) {
+fn add_generated(
+    random: &mut Random,
+    sizes: &Sizes,
+    plan: &mut Plan,
+    count: usize,
+    generate: Generate,
+) {
     if plan.terms.is_empty() || count == 0 {
         return;
     }
@@ -195,7 +208,7 @@ pub fn add_generated(random: &mut Random, sizes: &Sizes, plan: &mut Plan, count:
         } else {
             *random.pick(&able)
         };
-        let generated = blocks::generated(random, plan, sizes, term);
+        let generated = generate(random, plan, sizes, term);
         plan.generated.push(generated);
         last = term;
     }

@@ -1,0 +1,13 @@
+use Prim.Native.Nat.{◌+◌, ◌-◌, ◌≤◌}
+use mathlib.Core.Path.{◌≡◌}
+use lib.ListN.{length}
+use Rattle.plan.specs.Refusal.{every}
+use Rattle.view.specs.Tables.{generated_from}
+use Rattle.checks.proofs.Blocks.{iterates}
+use Rattle.checks.proofs.loops.loops_iterate.Given as goal
+
+abbrev pub invariant-loop-t : goal.invariant-loop-t
+invariant-loop-t l = (l.t ≤ length l.tables + 7) × (every iterates (generated_from l.words l.rows l.tables l.t) ≡ every iterates (generated_from l.words l.rows l.tables 7))
+
+abbrev pub decreases-loop-t : goal.decreases-loop-t
+decreases-loop-t l = length l.tables - l.t

@@ -1,0 +1,20 @@
+use Prim.Native.Nat.{ℕ, ◌-◌}
+use mathlib.Core.Path.{sym, ap, ◌∙◌}
+use mathlib.Core.List.{List, map}
+use Rattle.plan.specs.Refusal.{returns_last}
+use Rattle.rows.specs.View.{block_of}
+use Rattle.checks.proofs.Every.{rows_start}
+use Rattle.checks.proofs.Blocks.{ended_true, ended_false, ended_end}
+use Rattle.checks.proofs.returns.block_ends.Goals as goal
+
+pub loop-r-init : goal.loop-r-init
+loop-r-init c = ap (λ (l : List (List ℕ)). returns_last (map block_of l)) (rows_start c.args.words.now c.args.rows.now c.args.tables.now c.args.t _ _ c.bound-r.ensures.0 c.next_bound-end.ensures.0)
+
+pub returns-then-not-is_last : goal.returns-then-not-is_last
+returns-then-not-is_last c = sym (ended_false c.args.words.now c.args.rows.now c.loop-r.r c.next_bound-end.result c.loop-r-test.true (sym c.is_last.ensures ∙ c.if-not-is_last.true)) ∙ c.loop-r.invariant
+
+pub loop-r-preserved : goal.loop-r-preserved
+loop-r-preserved c = sym (ended_true c.args.words.now c.args.rows.now c.loop-r.r c.next_bound-end.result c.loop-r-test.true (sym c.is_last.ensures ∙ c.if-not-is_last.false)) ∙ c.loop-r.invariant
+
+pub returns : goal.returns
+returns c = sym (ended_end c.args.words.now c.args.rows.now c.loop-r.r c.next_bound-end.result c.loop-r-test.false) ∙ c.loop-r.invariant

@@ -1,0 +1,5 @@
+use Rattle.consts.proofs.Laws.{emits_lit}
+use Rattle.consts.proofs.emit_int.Goals as goal
+
+pub returns : goal.returns
+returns c = λ env plan index d q h. emits_lit c.int_type-int.result c.args.high c.args.low (c.int_type-int.ensures env plan index h) c.is_odd-is_odd.ensures c.emit_int-at.ensures c.count-odd.ensures

@@ -1,0 +1,85 @@
+-- Demand 1, of the entries `emit`, `emit_terms` and `emit_items` (emitter/src/lib.rt). For any plan and any buffer the contract of `emit`
+-- says `Answers (answer plan (length before)) r before after` of its result r and the buffer before and after; those of `emit_terms` and
+-- `emit_items` say the same with `terms-answer` and `items-answer`. So what is proved here from `Answers` holds of each of their calls.
+-- Assumes nothing.
+use Rattle.std.specs.Prelude.{zero, ℕ, suc, ◌≤◌, ◌≡◌, Bool, List, ◌++◌, drop}
+use Rattle.std.proofs.Math.Path.{refl}
+use Rattle.std.proofs.Common.{sym, ◌∙◌, arith, ne_eqb, leb-true}
+use Rattle.std.proofs.Math.Bool.{true, false, cond}
+use Rattle.std.proofs.Math.Option.{some}
+use Rattle.std.proofs.Math.Dec.{leb}
+use Rattle.std.proofs.Math.ListN.{length}
+use Rattle.plan.specs.Plan.{Plan}
+use Rattle.plan.specs.Layout.{read}
+use Rattle.plan.specs.Refusal.{Outcome, refused, accepted, outcome}
+use Rattle.codegen.specs.Piece.{render}
+use Rattle.codegen.specs.Items.{items}
+use Rattle.codegen.specs.Terms.{terms_text, odds}
+use Rattle.codegen.specs.Answer.{Answer, refuse, answer, terms_answer, whole_text}
+use Rattle.codegen.specs.AnswerLaws.{Judged, turned_away, taken, judged_outcome}
+use Rattle.splitting.specs.Cases.{false_true}
+use Rattle.splitting.specs.Accepted.{accepted_read}
+use Rattle.splitting.specs.Demand3.{count}
+use Rattle.emitter.specs.declared.Emitted.{Emitted}
+use Rattle.emitter.specs.declared.Emitted.TheVariants.{Refused, Text}
+use Rattle.emitter.specs.declared.Form.{Form}
+use Rattle.emitter.specs.declared.Form.TheVariants.{Whole, Terms, Items}
+use Rattle.emitter.specs.Answered.{Answers, items_answer}
+use Rattle.emitter.specs.Held.{form_text, form_count, answer_with, answer_in}
+use Rattle.emitter.specs.EntryLaws.{form_le, whole_is, terms_is, items_is}
+use Rattle.demands.specs.Checks.{checks, passes, FirstToFail, first_failing, all_pass, first_to_fail, number_given, first_check}
+
+-- DEMAND 1: "A caller may hand over any bytes as a plan, and an output buffer of any length, and gets the text or one of the
+-- refusals 1 to 11; a refusal gives length 0 and count 0 and changes no byte of the buffer."
+-- Document 01: "Checks run over the whole plan in number order; the lowest number is given, and none otherwise."
+
+-- of a text that is asked for, with its count, a plan's bytes and the buffer before: the result, and the buffer after
+pub data TextOrRefusal (form : Plan → List ℕ) (odd : Plan → ℕ) (plan before : List ℕ) : Emitted → List ℕ → Type 0 where
+  -- check n of the list (Checks.antt) fails, and every earlier one passes
+  refusal : (n : ℕ) → 1 ≤ n → n ≤ 11 → FirstToFail (checks form plan (length before)) n → TextOrRefusal form odd plan before (Refused n) before
+  -- every check passes, and the text and the count are those of the plan that the bytes are read as
+  text : (p : Plan) → read plan ≡ some p → outcome plan ≡ accepted p → ((n : ℕ) → passes (checks form plan (length before)) n ≡ true) → length (form p) ≤ length before → odd p ≤ length (form p)
+      → TextOrRefusal form odd plan before (Text (length (form p)) (odd p)) (form p ++ drop (length (form p)) before)
+
+module _ (f : Form) (plan before : List ℕ) where
+  abbrev list : List Bool
+  list = checks (form_text f) plan (length before)
+
+  abbrev Demanded : Emitted → List ℕ → Type 0
+  Demanded r after = TextOrRefusal (form_text f) (form_count f) plan before r after
+
+  refusing : (n : ℕ) → n ≤ 11 → first_failing 0 list ≡ n → 1 ≤ n → (r : Emitted) {after : List ℕ} → Answers (refuse n) r before after → Demanded r after
+  refusing zero h e g r {after = after} q = elim g [ ]
+  refusing (suc n) h e g (Refused m) q = let z : m ≡ suc n = q.number in rw (q.bytes, z) (refusal (suc n) g h (first_to_fail list n e))
+  refusing (suc n) h e g (Text l k) q = false_true (sym (ne_eqb (suc n) 0 (λ z. absurd (omega arith))) ∙ sym q.written)
+
+  writing : (p : Plan) → outcome plan ≡ accepted p → first_failing 0 list ≡ 0 → length (form_text f p) ≤ length before → (r : Emitted) {after : List ℕ}
+      → Answers (record { number = 0; length = length (form_text f p); count = form_count f p; text = form_text f p }) r before after → Demanded r after
+  writing p e g h (Refused m) q = false_true q.written
+  writing p e g h (Text l k) q = rw (q.bytes, q.length, q.count) (text p (accepted_read plan p e) e (all_pass list g) h (form_le f p))
+
+  text_or_refusal : (r : Emitted) {after : List ℕ} → Answers (answer_in f (length before) (outcome plan)) r before after → Demanded r after
+  unfolding answer_in answer_with number_given
+  text_or_refusal r {after} = by_outcome (judged_outcome plan) refl (sym (first_check (form_text f) (length before) plan))
+    where
+      by_room : (p : Plan) → outcome plan ≡ accepted p → (b : Bool) → leb (length (form_text f p)) (length before) ≡ b → first_failing 0 list ≡ cond b 0 11
+          → Answers (cond b (record { number = 0; length = length (form_text f p); count = form_count f p; text = form_text f p }) (refuse 11)) r before after → Demanded r after
+      by_room p e true h g q = writing p e g (leb-true (length (form_text f p)) (length before) h) r q
+      by_room p e false h g q = refusing 11 (omega arith) g (omega arith) r q
+
+      by_outcome : {o : Outcome} → Judged o → outcome plan ≡ o → first_failing 0 list ≡ number_given (form_text f) (length before) o → Answers (answer_in f (length before) o) r before after → Demanded r after
+      by_outcome (turned_away n h g) e w q = refusing n (omega arith) w h r q
+      by_outcome (taken p) e w q = by_room p e (leb (length (form_text f p)) (length before)) refl w q
+
+pub demand_1 : (plan before : List ℕ) {r : Emitted} {after : List ℕ} → Answers (answer plan (length before)) r before after → TextOrRefusal whole_text odds plan before r after
+demand_1 plan before {r} q = text_or_refusal Whole plan before r (rw (whole_is plan (length before)) q)
+
+pub demand_1_terms : (plan before : List ℕ) {r : Emitted} {after : List ℕ} → Answers (terms_answer plan (length before)) r before after → TextOrRefusal terms_text odds plan before r after
+demand_1_terms plan before {r} q = text_or_refusal Terms plan before r (rw (terms_is plan (length before)) q)
+
+-- header, trait and types: no literals stand there
+abbrev pub items_text : Plan → List ℕ
+items_text p = render p.env 0 (items p)
+
+pub demand_1_items : (plan before : List ℕ) {r : Emitted} {after : List ℕ} → Answers (items_answer plan (length before)) r before after → TextOrRefusal items_text (λ p. 0) plan before r after
+demand_1_items plan before {r} q = text_or_refusal Items plan before r (rw (items_is plan (length before)) q)

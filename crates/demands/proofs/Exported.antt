@@ -1,0 +1,181 @@
+-- The three demands, of the C functions `rizhavel_whole`, `rizhavel_terms` and `rizhavel_items` (emitter/src/exports.rt). Their contracts
+-- say `Exports (answer plan (length before)) n before after told told'`, or the same with `terms-answer` or `items-answer`, of the number n
+-- that is returned, the buffer before and after, and the lent slice of numbers before and after, however short. Assumes nothing.
+use Rattle.std.specs.Prelude.{ℕ, zero, suc, ◌≤◌, ◌≡◌, refl, Bool, true, false, cond, List, [], ◌∷◌, leb, eqb, length, get_or, take}
+use Rattle.std.proofs.Common.{sym, ◌∙◌, arith, ne_eqb}
+use Rattle.std.proofs.Math.Option.{some}
+use Rattle.std.proofs.lemmas.List.Edits.{sets}
+use Rattle.std.proofs.Math.Seq.{length-sets}
+use Rattle.plan.specs.Plan.{Plan}
+use Rattle.plan.specs.Refusal.{Outcome, refused, accepted, outcome}
+use Rattle.codegen.specs.Items.{items}
+use Rattle.codegen.specs.Terms.{terms_text, odds}
+use Rattle.codegen.specs.Answer.{Answer, refuse, answer_of, answer, terms_answer, whole_text}
+use Rattle.codegen.specs.TakeOff.{closures_off, closures_off_terms}
+use Rattle.splitting.specs.Demand3.{SplitPair, SplitBytes, number, count}
+use Rattle.read_back.specs.Tokens.{piece_tokens, whole_tokens, terms_tokens}
+use Rattle.emitter.specs.declared.Emitted.{Emitted}
+use Rattle.emitter.specs.declared.Emitted.TheVariants.{Refused, Text}
+use Rattle.emitter.specs.Answered.{number_of, length_of, count_of, is_text, Answers, Exports, items_answer}
+use Rattle.demands.proofs.Demand1.{TextOrRefusal, items_text, demand_1, demand_1_terms, demand_1_items}
+use Rattle.demands.specs.Demand2.{Writes, ReadBack, FromRows, demand_2, demand_2_terms, demand_2_read_back, demand_2_read_back_terms, demand_2_origins, demand_2_origins_terms}
+use Rattle.demands.proofs.Demand2Items.{NoLiterals, demand_2_items, demand_2_read_back_items}
+use Rattle.demands.specs.Demand2Boundaries.{Boundaries, demand_2_boundaries, demand_2_boundaries_terms}
+use Rattle.demands.specs.Demand3.{Closures, demand_3, demand_3_terms, demand_3_bytes, demand_3_bytes_terms, demand_3_closures, demand_3_closures_terms}
+
+-- what a C function tells: of a result with the property P its number n, which is 0 for a text, and as the first two entries of the
+-- slice its length and count, as far as there are such; the other entries are unchanged, and there are as many as before
+pub record Told (P : Emitted → Type 0) (n : ℕ) (told told' : List ℕ) : Type 0 where
+  pub result : Emitted
+  pub holds : P result
+  pub number : n ≡ number_of result
+  pub text : is_text result ≡ eqb n 0
+  pub entry_0 : 1 ≤ length told → get_or told' 0 0 ≡ length_of result
+  pub entry_1 : 2 ≤ length told → get_or told' 1 0 ≡ count_of result
+  pub others : (i : ℕ) → 2 ≤ i → get_or told' i 0 ≡ get_or told i 0
+  pub entries : length told' ≡ length told
+
+-- THE SLICE
+
+set_pair_0 : (told : List ℕ) (l k : ℕ) → 1 ≤ length told → get_or (sets told 0 (l ∷ k ∷ [])) 0 0 ≡ l
+set_pair_0 [] l k h = absurd (omega arith)
+set_pair_0 (a ∷ told) l k h = refl
+
+set_pair_1 : (told : List ℕ) (l k : ℕ) → 2 ≤ length told → get_or (sets told 0 (l ∷ k ∷ [])) 1 0 ≡ k
+set_pair_1 [] l k h = absurd (omega arith)
+set_pair_1 (a ∷ []) l k h = absurd (omega arith)
+set_pair_1 (a ∷ b ∷ told) l k h = refl
+
+set_pair_others : (told : List ℕ) (l k i : ℕ) → 2 ≤ i → get_or (sets told 0 (l ∷ k ∷ [])) i 0 ≡ get_or told i 0
+set_pair_others [] l k i h = refl
+set_pair_others (a ∷ []) l k zero h = absurd (omega arith)
+set_pair_others (a ∷ []) l k (suc i) h = refl
+set_pair_others (a ∷ b ∷ told) l k zero h = absurd (omega arith)
+set_pair_others (a ∷ b ∷ told) l k (suc zero) h = absurd (omega arith)
+set_pair_others (a ∷ b ∷ told) l k (suc (suc i)) h = refl
+
+-- WHATEVER HOLDS OF THE ENTRY'S CALLS HOLDS OF THE C FUNCTION'S
+
+module _ (a : Answer) (nothing : 1 ≤ a.number → (a.length ≡ 0) × (a.count ≡ 0)) {n : ℕ} {before after told told' : List ℕ} (P : Emitted → Type 0) (h : (r : Emitted) → Answers a r before after → P r) where
+  tells : (r : Emitted) → Answers a r before after → Exports a n before after told told' → Told P n told told'
+  tells r q e = record {
+    result = r;
+    holds = h r q;
+    number = e.numbered ∙ sym q.number;
+    text = q.written ∙ rw e.numbered refl;
+    entry_0 = λ g. rw e.values (set_pair_0 told a.length a.count g ∙ sym q.length);
+    entry_1 = λ g. rw e.values (set_pair_1 told a.length a.count g ∙ sym q.count);
+    others = λ i g. rw e.values (set_pair_others told a.length a.count i g);
+    entries = rw e.values (length-sets told 0 (a.length ∷ a.count ∷ []));
+  }
+
+  told_of : Exports a n before after told told' → Told P n told told'
+  told_of e = by_number n e.numbered
+    where
+      by_number : (m : ℕ) → m ≡ a.number → Told P n told told'
+      by_number zero z = tells (Text a.length a.count) (record { number = z; length = refl; count = refl; written = rw (← z) refl; bytes = e.bytes }) e
+      by_number (suc m) z =
+          let g : (a.length ≡ 0) × (a.count ≡ 0) = nothing (omega arith) in
+          tells (Refused (suc m)) (record { number = z; length = sym g.0; count = sym g.1; written = rw (ne_eqb a.number 0 (λ y. absurd (omega arith))) refl; bytes = e.bytes }) e
+
+-- a refusal has length 0 and count 0
+nothing_given : (form : Plan → List ℕ) (room : ℕ) (o : Outcome) → 1 ≤ (answer_of form room o).number → ((answer_of form room o).length ≡ 0) × ((answer_of form room o).count ≡ 0)
+unfolding answer_of
+nothing_given form room (refused n) h = (refl, refl)
+nothing_given form room (accepted p) h = by_room (leb (length (form p)) room) _ refl h
+  where
+    by_room : (b : Bool) (a : Answer) → a.number ≡ 0 → 1 ≤ (cond b a (refuse 11)).number → ((cond b a (refuse 11)).length ≡ 0) × ((cond b a (refuse 11)).count ≡ 0)
+    by_room true a z h = absurd (omega arith)
+    by_room false a z h = (refl, refl)
+
+module _ (plan before : List ℕ) {n : ℕ} {after told told' : List ℕ} (P : Emitted → Type 0) where
+  pub rizhavel_whole : ((r : Emitted) → Answers (answer plan (length before)) r before after → P r) → Exports (answer plan (length before)) n before after told told' → Told P n told told'
+  unfolding answer
+  rizhavel_whole h e = told_of _ (nothing_given whole_text (length before) (outcome plan)) P h e
+
+  pub rizhavel_terms : ((r : Emitted) → Answers (terms_answer plan (length before)) r before after → P r) → Exports (terms_answer plan (length before)) n before after told told' → Told P n told told'
+  unfolding terms_answer
+  rizhavel_terms h e = told_of _ (nothing_given terms_text (length before) (outcome plan)) P h e
+
+  pub rizhavel_items : ((r : Emitted) → Answers (items_answer plan (length before)) r before after → P r) → Exports (items_answer plan (length before)) n before after told told' → Told P n told told'
+  unfolding items_answer
+  rizhavel_items h e = told_of _ (λ g. ((nothing_given items_text (length before) (outcome plan) g).0, refl)) P h e
+
+-- a property of a text's length and count, where there is a text
+abbrev pub Where : (ℕ → ℕ → Type 0) → Emitted → Type 0
+Where P (Refused n) = Unit
+Where P (Text l k) = P l k
+
+where_text : {a : Answer} {before after : List ℕ} (P : ℕ → ℕ → Type 0) → ((l k : ℕ) → Answers a (Text l k) before after → P l k) → (r : Emitted) → Answers a r before after → Where P r
+where_text P h (Refused n) q = tt
+where_text P h (Text l k) q = h l k q
+
+-- `rizhavel_whole`
+
+module _ (plan before : List ℕ) {n : ℕ} {after told told' : List ℕ} (e : Exports (answer plan (length before)) n before after told told') where
+  pub whole_demand_1 : Told (λ r. TextOrRefusal whole_text odds plan before r after) n told told'
+  whole_demand_1 = rizhavel_whole plan before _ (λ r q. demand_1 plan before q) e
+
+  pub whole_demand_2 : (p : Plan) → outcome plan ≡ accepted p → length (whole_text p) ≤ length before → Told (λ r. Writes (whole_text p) (odds p) before r after) n told told'
+  whole_demand_2 p i h = rizhavel_whole plan before _ (λ r q. demand_2 plan before p i h q) e
+
+  pub whole_demand_2_read_back : Told (Where (λ l k. ReadBack plan whole_tokens l k after)) n told told'
+  whole_demand_2_read_back = rizhavel_whole plan before _ (where_text _ (λ l k q. demand_2_read_back plan before q)) e
+
+  pub whole_demand_2_origins : Told (Where (λ l k. FromRows plan (λ p. piece_tokens p.env 0 (items p)) whole_tokens l after)) n told told'
+  whole_demand_2_origins = rizhavel_whole plan before _ (where_text _ (λ l k q. demand_2_origins plan before q)) e
+
+  pub whole_demand_2_boundaries : Told (Where (λ l k. Boundaries plan whole_tokens l after)) n told told'
+  whole_demand_2_boundaries = rizhavel_whole plan before _ (where_text _ (λ l k q. demand_2_boundaries plan before q)) e
+
+  pub whole_demand_3_closures : Told (Where (λ l k. Closures plan items_text (take l after))) n told told'
+  whole_demand_3_closures = rizhavel_whole plan before _ (where_text _ (λ l k q. demand_3_closures plan before q)) e
+
+  pub whole_demand_3 : (b : List ℕ) (p q : Plan) → SplitPair plan b p q → {m : ℕ} (before' : List ℕ) {after' other other' : List ℕ} → Exports (answer b (length before')) m before' after' other other'
+      → Told (Where (λ l k. Told (Where (λ l' k'. (closures_off plan (take l after) ≡ some (take l' after')) × (k ≡ k'))) m other other')) n told told'
+  whole_demand_3 b p q s before' f = rizhavel_whole plan before _ (where_text _ (λ l k x. rizhavel_whole b before' _ (where_text _ (λ l' k' y. demand_3 plan b p q s x y)) f)) e
+
+  pub whole_demand_3_bytes : (b : List ℕ) → SplitBytes plan b → {m : ℕ} (before' : List ℕ) {after' other other' : List ℕ} → Exports (answer b (length before')) m before' after' other other'
+      → Told (Where (λ l k. Told (Where (λ l' k'. (closures_off plan (take l after) ≡ some (take l' after')) × (k ≡ k'))) m other other')) n told told'
+  whole_demand_3_bytes b s before' f = rizhavel_whole plan before _ (where_text _ (λ l k x. rizhavel_whole b before' _ (where_text _ (λ l' k' y. demand_3_bytes plan b s x y)) f)) e
+
+-- `rizhavel_terms`
+
+module _ (plan before : List ℕ) {n : ℕ} {after told told' : List ℕ} (e : Exports (terms_answer plan (length before)) n before after told told') where
+  pub terms_demand_1 : Told (λ r. TextOrRefusal terms_text odds plan before r after) n told told'
+  terms_demand_1 = rizhavel_terms plan before _ (λ r q. demand_1_terms plan before q) e
+
+  pub terms_demand_2 : (p : Plan) → outcome plan ≡ accepted p → length (terms_text p) ≤ length before → Told (λ r. Writes (terms_text p) (odds p) before r after) n told told'
+  terms_demand_2 p i h = rizhavel_terms plan before _ (λ r q. demand_2_terms plan before p i h q) e
+
+  pub terms_demand_2_read_back : Told (Where (λ l k. ReadBack plan terms_tokens l k after)) n told told'
+  terms_demand_2_read_back = rizhavel_terms plan before _ (where_text _ (λ l k q. demand_2_read_back_terms plan before q)) e
+
+  pub terms_demand_2_origins : Told (Where (λ l k. FromRows plan (λ p. []) terms_tokens l after)) n told told'
+  terms_demand_2_origins = rizhavel_terms plan before _ (where_text _ (λ l k q. demand_2_origins_terms plan before q)) e
+
+  pub terms_demand_2_boundaries : Told (Where (λ l k. Boundaries plan terms_tokens l after)) n told told'
+  terms_demand_2_boundaries = rizhavel_terms plan before _ (where_text _ (λ l k q. demand_2_boundaries_terms plan before q)) e
+
+  pub terms_demand_3_closures : Told (Where (λ l k. Closures plan (λ p. []) (take l after))) n told told'
+  terms_demand_3_closures = rizhavel_terms plan before _ (where_text _ (λ l k q. demand_3_closures_terms plan before q)) e
+
+  pub terms_demand_3 : (b : List ℕ) (p q : Plan) → SplitPair plan b p q → {m : ℕ} (before' : List ℕ) {after' other other' : List ℕ} → Exports (terms_answer b (length before')) m before' after' other other'
+      → Told (Where (λ l k. Told (Where (λ l' k'. (closures_off_terms plan (take l after) ≡ some (take l' after')) × (k ≡ k'))) m other other')) n told told'
+  terms_demand_3 b p q s before' f = rizhavel_terms plan before _ (where_text _ (λ l k x. rizhavel_terms b before' _ (where_text _ (λ l' k' y. demand_3_terms plan b p q s x y)) f)) e
+
+  pub terms_demand_3_bytes : (b : List ℕ) → SplitBytes plan b → {m : ℕ} (before' : List ℕ) {after' other other' : List ℕ} → Exports (terms_answer b (length before')) m before' after' other other'
+      → Told (Where (λ l k. Told (Where (λ l' k'. (closures_off_terms plan (take l after) ≡ some (take l' after')) × (k ≡ k'))) m other other')) n told told'
+  terms_demand_3_bytes b s before' f = rizhavel_terms plan before _ (where_text _ (λ l k x. rizhavel_terms b before' _ (where_text _ (λ l' k' y. demand_3_bytes_terms plan b s x y)) f)) e
+
+-- `rizhavel_items`
+
+module _ (plan before : List ℕ) {n : ℕ} {after told told' : List ℕ} (e : Exports (items_answer plan (length before)) n before after told told') where
+  pub items_demand_1 : Told (λ r. TextOrRefusal items_text (λ p. 0) plan before r after) n told told'
+  items_demand_1 = rizhavel_items plan before _ (λ r q. demand_1_items plan before q) e
+
+  pub items_demand_2 : (p : Plan) → outcome plan ≡ accepted p → length (items_text p) ≤ length before → Told (λ r. Writes (items_text p) 0 before r after) n told told'
+  items_demand_2 p i h = rizhavel_items plan before _ (λ r q. demand_2_items plan before p i h q) e
+
+  pub items_demand_2_read_back : Told (Where (λ l k. NoLiterals plan l k after)) n told told'
+  items_demand_2_read_back = rizhavel_items plan before _ (where_text _ (λ l k q. demand_2_read_back_items plan before q)) e

@@ -1,0 +1,4 @@
+pub mod Stack
+pub mod Walk
+pub mod Accepted
+pub mod Terms

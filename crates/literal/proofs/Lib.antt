@@ -1,0 +1,4 @@
+pub mod ReadBackLaws
+pub mod ReadBack
+pub mod CastLaws
+pub mod Escapes

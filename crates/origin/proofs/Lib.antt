@@ -1,0 +1,4 @@
+pub mod NamesLaws
+pub mod PieceOrigins
+pub mod BlockOrigins
+pub mod ItemOrigins

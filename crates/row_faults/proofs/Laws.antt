@@ -1,0 +1,410 @@
+-- Laws about names, kept answers and lists. Assumes nothing.
+use Prim.Native.Nat.{ℕ, zero, suc, ◌+◌, ◌-◌, ◌≤◌, ◌<◌}
+use mathlib.Core.Path.{◌≡◌, refl, sym, ap, ◌∙◌}
+use mathlib.Core.Bool.{Bool, true, false, cond, not, ◌&&◌, ◌||◌}
+use mathlib.Core.Option.{Option, some, none}
+use mathlib.Core.List.{List, [], ◌∷◌}
+use native.Mathlib.Numerals.{add-one}
+use native.Mathlib.Omega.{arith}
+use lib.Dec.{eqb, ltb}
+use lib.ListN.{length, get_or, drop, drop_of_length-le}
+use lib.Seq.{drop-cons, get_or-drop, get_or-set_other}
+use borrow.Author.Tests.{eq-eqb, ne_eqb, eqb-false, ltb-true, ltb-false, lt-ltb, le-ltb}
+use Rattle.plan.specs.Plan.{Environment}
+use Rattle.plan.specs.Binding.{BindingRow}
+use Rattle.plan.specs.Lookup.{binding_at}
+use Rattle.plan.specs.Row.{Match, Equal, Loop, Return, Row, arm}
+use Rattle.codegen.specs.Writer.{Marks, contains, insert}
+use Rattle.codegen.specs.Pattern.{bind_all}
+use Rattle.codegen.specs.Block.{Purpose, body, arm_count, is_constant}
+use Rattle.origin.specs.Names.{listed, after_list, match_inside, match_opens, inside, opens}
+use Rattle.lists.specs.Items.{unbound}
+use Rattle.values.specs.Value.{Wide}
+use Rattle.rows.specs.View.{nth, wide_at, arm_made, pattern_of, patterns_in, binding_of, block_of}
+use Rattle.layout.specs.View.{cut}
+use Rattle.view.specs.Told.{control_flow_of, constraint_of}
+use Rattle.view.specs.Tables.{table_rows}
+use Rattle.checks.proofs.Blocks.{binding_is}
+use Rattle.row_frames.specs.Patterns.{bind_some}
+use Rattle.row_frames.specs.Scopes.{Saved}
+use Rattle.row_frames.specs.Told.{opens_told}
+use Rattle.emits.specs.Marks.{set_of}
+use Rattle.row_frames.specs.Rows.{rows_from, rows_next, rows_none, step_is, arm_is}
+use Rattle.splitting.specs.Cases.{false_true}
+use Rattle.schedule_rules.specs.Faults.{any, returns_many, holds, calls_below, calls, uses, loop_unbound, list_calls, check_calls, own_new, source_uses_own, match_uses_own, row_faults, nowhere}
+use Rattle.schedule_rules.specs.Found.{Lower, found}
+use Rattle.schedule_rules.proofs.Found.{sources_found}
+use Rattle.expr_faults.specs.Kept.{TermsHeld, bindings_in, asked_name, asked_call, answer, Known, Fresh, Finds}
+use Rattle.expr_faults.proofs.Laws.{fresh_known, fresh_latest}
+use Rattle.row_faults.specs.Ready.{Ready, Decides, member_calls}
+use Rattle.row_faults.specs.Arms.{arms_in, arm_names, own_used, arm_own, opened_by}
+use Rattle.row_faults.specs.Step.{JudgesStep}
+use Rattle.row_faults.specs.Row.{JudgesArm, JudgesRow}
+use Rattle.row_faults.specs.declared.check.Step.{Step}
+use Rattle.row_faults.specs.declared.matches.Arms.{Arms}
+use Rattle.row_faults.specs.declared.matches.Arms.TheVariants.{Absent, One, Several}
+
+-- NAMES
+
+-- what is there already changes nothing
+pub insert_there : (m : Marks) (b : ℕ) → contains m b ≡ true → insert m b ≡ m
+insert_there [] b h = refl
+insert_there (x ∷ m) zero h = ap (λ (y : Bool). y ∷ m) (sym h)
+insert_there (x ∷ m) (suc b) h = ap (λ (n : Marks). x ∷ n) (insert_there m b h)
+
+-- nor does a pattern that binds it
+pub bind_there : (b : ℕ) (m : Marks) → (b ≡ unbound → ⊥) → contains m b ≡ true → m ≡ bind_all (pattern_of b ∷ []) m
+bind_there b m h k = sym (insert_there m b k) ∙ bind_some b m h
+
+-- KEPT ANSWERS
+
+module _ (env : Environment) (bs : List BindingRow) (before bound : Marks) where
+  answer_calls : (b : ℕ) → answer false env bs before bound b ≡ calls env bs bound b
+  unfolding answer found asked_name asked_call calls calls_below
+  answer_calls b = refl
+
+  known_calls : {number : ℕ} {kept : List ℕ} → Known (calls env bs bound) number kept → Known (answer false env bs before bound) number kept
+  known_calls k = record { no = λ b h. answer_calls b ∙ k.no b h; yes = λ b h. answer_calls b ∙ k.yes b h }
+
+  calls_known : {number : ℕ} {kept : List ℕ} → Known (answer false env bs before bound) number kept → Known (calls env bs bound) number kept
+  calls_known k = record { no = λ b h. sym (answer_calls b) ∙ k.no b h; yes = λ b h. sym (answer_calls b) ∙ k.yes b h }
+
+  -- the sources of a member
+  sources_calls : (b : ℕ) → Lower bs → any (answer false env bs before bound) (binding_at bs b).sources ≡ any (calls_below env bs bound b) (binding_at bs b).sources
+  unfolding answer found asked_name asked_call calls_below
+  sources_calls b l = sym (sources_found nowhere (λ n. returns_many env (binding_at bs n).binding) bs bound l b)
+
+module _ {words rows tables : List ℕ} {t : ℕ} {bound : Marks} where
+  pub ready_fresh : {number : ℕ} {kept : List ℕ} → Fresh number kept → Ready words rows tables t bound number kept
+  ready_fresh h = record { low = omega (arith, h.below 0); room = h.room; latest = fresh_latest h; known = λ env x l. fresh_known h }
+
+  module _ {before : Marks} {number : ℕ} {kept kept' : List ℕ} {r : Bool} (y : Ready words rows tables t bound number kept) where
+    -- after a question what is kept is right again
+    pub ready_kept : {x : (ℕ → Bool) → Bool} → Finds false words rows tables t before bound number x kept kept' r → Ready words rows tables t bound number kept'
+    ready_kept f = record {
+      low = y.low;
+      room = y.room;
+      latest = f.latest y.latest;
+      known = λ env h l. calls_known env (bindings_in words rows tables t) before bound (f.known env h l (known_calls env (bindings_in words rows tables t) before bound (y.known env h l))).1;
+    }
+
+    pub decides_calls : (b : ℕ) → Finds false words rows tables t before bound number (λ f. f b) kept kept' r → Decides words rows tables t (λ env bs. calls env bs bound b) r
+    decides_calls b f = record { is = λ env h l. (f.known env h l (known_calls env (bindings_in words rows tables t) before bound (y.known env h l))).0 ∙ answer_calls env (bindings_in words rows tables t) before bound b }
+
+    pub decides_member : (b : ℕ) → contains bound b ≡ false → Finds false words rows tables t before bound number (λ f. any f (binding_at (bindings_in words rows tables t) b).sources) kept kept' r → Decides words rows tables t (λ env bs. member_calls env bs bound b) r
+    unfolding member_calls
+    decides_member b h f = record { is = λ env x l. rw h ((f.known env x l (known_calls env (bindings_in words rows tables t) before bound (y.known env x l))).0 ∙ sources_calls env (bindings_in words rows tables t) before bound b l) }
+
+pub decides_named : {words rows tables : List ℕ} {t : ℕ} (bound : Marks) (b : ℕ) → contains bound b ≡ true → Decides words rows tables t (λ env bs. member_calls env bs bound b) false
+unfolding member_calls
+decides_named bound b h = record { is = λ env x l. rw h refl }
+
+-- LISTS
+
+-- from word k of the row on, where the names were m₀ at the list's start
+pub record Listing (words rows tables : List ℕ) (t : ℕ) (row : List ℕ) (m₀ m : Marks) (k : ℕ) (found : Bool) : Type 0 where
+  pub names : listed (drop k row) m ≡ listed (drop 7 row) m₀
+  pub faults : (env : Environment) → TermsHeld env words rows tables → Lower (bindings_in words rows tables t)
+      → (found || list_calls env (bindings_in words rows tables t) m (drop k row)) ≡ list_calls env (bindings_in words rows tables t) m₀ (drop 7 row)
+
+or_assoc : (a b c : Bool) → ((a || b) || c) ≡ (a || (b || c))
+or_assoc true b c = refl
+or_assoc false b c = refl
+
+or_false : (a : Bool) → (a || false) ≡ a
+or_false true = refl
+or_false false = refl
+
+listed_cons : (row : List ℕ) (k : ℕ) (m : Marks) → k < length row → listed (drop k row) m ≡ listed (drop (k + 1) row) (insert m (nth row k))
+unfolding listed
+listed_cons row k m h = rw (add-one, drop-cons row k 0 h)
+
+calls_cons : (env : Environment) (bs : List BindingRow) (row : List ℕ) (k : ℕ) (m : Marks) → k < length row → list_calls env bs m (drop k row) ≡ (member_calls env bs m (nth row k) || list_calls env bs (insert m (nth row k)) (drop (k + 1) row))
+unfolding list_calls member_calls
+calls_cons env bs row k m h = rw (add-one, drop-cons row k 0 h)
+
+module _ {words rows tables : List ℕ} {t : ℕ} {row : List ℕ} {m₀ : Marks} where
+  pub listing_start : Listing words rows tables t row m₀ m₀ 7 false
+  listing_start = record { names = refl; faults = λ env x l. refl }
+
+  pub listing_next : {m m' : Marks} {k : ℕ} {found more r : Bool} → k < length row → Listing words rows tables t row m₀ m k found → m' ≡ insert m (nth row k)
+      → Decides words rows tables t (λ env bs. member_calls env bs m (nth row k)) more → r ≡ (found || more) → Listing words rows tables t row m₀ m' (k + 1) r
+  listing_next {m} {m'} {k} {found} {more} h w q d e = record {
+    names = rw q (sym (listed_cons row k m h) ∙ w.names);
+    faults = λ env x l.
+        rw (q, e, d.is env x l) (or_assoc found _ _ ∙ ap (λ (y : Bool). found || y) (sym (calls_cons env (bindings_in words rows tables t) row k m h)) ∙ w.faults env x l);
+  }
+
+  pub listing_names : {m : Marks} {k : ℕ} {found : Bool} → length row ≤ k → Listing words rows tables t row m₀ m k found → m ≡ listed (drop 7 row) m₀
+  unfolding listed
+  listing_names {m} h w = sym (ap (λ (l : List ℕ). listed l m) (drop_of_length-le row h)) ∙ w.names
+
+  pub listing_faults : {m : Marks} {k : ℕ} {found : Bool} → length row ≤ k → Listing words rows tables t row m₀ m k found → Decides words rows tables t (λ env bs. list_calls env bs m₀ (drop 7 row)) found
+  unfolding list_calls
+  listing_faults {m} {k} {found} h w = record { is = λ env x l. sym (rw (drop_of_length-le row h) (or_false found)) ∙ w.faults env x l }
+
+pub or_left : (a b : Bool) → (a || b) ≡ false → a ≡ false
+or_left true b h = false_true (sym h)
+or_left false b h = refl
+
+pub or_right : (a b : Bool) → (a || b) ≡ false → b ≡ false
+or_right true b h = false_true (sym h)
+or_right false b h = h
+
+-- ARMS
+
+constant_made : (j a : ℕ) (b : Wide) → is_constant (arm_made j a b) ≡ ltb j 3
+unfolding arm_made
+constant_made zero a b = refl
+constant_made (suc zero) a b = refl
+constant_made (suc (suc zero)) a b = refl
+constant_made (suc (suc (suc j))) a b = other j ∙ sym (le-ltb (suc (suc (suc j))) 3 (omega arith))
+  where
+    other : (j : ℕ) → is_constant (arm_made (suc (suc (suc j))) a b) ≡ false
+    other zero = refl
+    other (suc zero) = refl
+    other (suc (suc zero)) = refl
+    other (suc (suc (suc j))) = refl
+
+four_less : (k : ℕ) → ltb k 7 ≡ ltb (k - 4) 3
+four_less k = by_test (ltb k 7) refl where
+  by_test : (b : Bool) → ltb k 7 ≡ b → ltb k 7 ≡ ltb (k - 4) 3
+  by_test true h = h ∙ sym (lt-ltb (k - 4) 3 (omega (arith, ltb-true k 7 h)))
+  by_test false h = h ∙ sym (le-ltb (k - 4) 3 (omega (arith, ltb-false k 7 h)))
+
+pub constant_is : (ws : List ℕ) → ltb (nth ws 1) 7 ≡ is_constant (constraint_of ws)
+constant_is ws = four_less (nth ws 1) ∙ sym (constant_made (nth ws 1 - 4) (nth ws 2) (wide_at ws 3))
+
+module _ (words rows : List ℕ) (l r last : ℕ) where
+  pub arms_absent : last ≤ r → Absent ≡ arms_in l (rows_from words rows last r)
+  unfolding arms_in
+  arms_absent h = rw (rows_none words rows r last h)
+
+  pub arms_step : r < last → ltb (nth (cut words rows r) 1) 4 ≡ true → Absent ≡ arms_in l (rows_from words rows last r)
+  unfolding arms_in
+  arms_step h s = rw (rows_next words rows r last h, step_is (cut words rows r) s)
+
+  arms_some : r < last → ltb (nth (cut words rows r) 1) 4 ≡ false → arms_in l (rows_from words rows last r) ≡ cond (eqb (arm_count l (rows_from words rows last r)) 1) One Several
+  unfolding arms_in
+  arms_some h s = rw (rows_next words rows r last h, arm_is (cut words rows r) s)
+
+  pub arms_one : r < last → ltb (nth (cut words rows r) 1) 4 ≡ false → arm_count l (rows_from words rows last r) ≡ 1 → One ≡ arms_in l (rows_from words rows last r)
+  arms_one h s q = sym (arms_some h s ∙ rw (eq-eqb _ 1 q))
+
+  pub arms_several : r < last → ltb (nth (cut words rows r) 1) 4 ≡ false → (arm_count l (rows_from words rows last r) ≡ 1 → ⊥) → Several ≡ arms_in l (rows_from words rows last r)
+  arms_several h s q = sym (arms_some h s ∙ rw (ne_eqb (arm_count l (rows_from words rows last r)) 1 q))
+
+-- THE ARM'S OWN NAMES
+
+any_like : (f g : ℕ → Bool) → ((n : ℕ) → f n ≡ g n) → (qs : List ℕ) → any f qs ≡ any g qs
+unfolding any
+any_like f g h [] = refl
+any_like f g h (q ∷ qs) = rw (h q, any_like f g h qs)
+
+-- names that agree where they are asked for
+holds_like : (name other through : ℕ → Bool) (bs : List BindingRow) (bound : Marks) → ((n : ℕ) → contains bound n ≡ true → name n ≡ other n) → (k b : ℕ) → holds name through bs bound k b ≡ holds other through bs bound k b
+unfolding holds
+holds_like name other through bs bound h zero b = refl
+holds_like name other through bs bound h (suc k) b = by_test (any_like (holds name through bs bound k) (holds other through bs bound k) (holds_like name other through bs bound h k) (binding_at bs b).sources) (contains bound b) refl
+  where
+    by_test : any (holds name through bs bound k) (binding_at bs b).sources ≡ any (holds other through bs bound k) (binding_at bs b).sources
+        → (c : Bool) → contains bound b ≡ c → cond c (name b) (through b || any (holds name through bs bound k) (binding_at bs b).sources) ≡ cond c (other b) (through b || any (holds other through bs bound k) (binding_at bs b).sources)
+    by_test e true q = h b q
+    by_test e false q = rw e
+
+-- nothing is found where nothing is asked for
+any_none : (f : ℕ → Bool) → ((n : ℕ) → f n ≡ false) → (qs : List ℕ) → any f qs ≡ false
+unfolding any
+any_none f h [] = refl
+any_none f h (q ∷ qs) = rw (h q, any_none f h qs)
+
+cond_same : (c a b : Bool) → a ≡ false → b ≡ false → cond c a b ≡ false
+cond_same true a b h g = h
+cond_same false a b h g = g
+
+holds_none : (bs : List BindingRow) (bound : Marks) (k b : ℕ) → holds nowhere nowhere bs bound k b ≡ false
+unfolding holds
+holds_none bs bound zero b = refl
+holds_none bs bound (suc k) b = cond_same (contains bound b) false _ refl (any_none (holds nowhere nowhere bs bound k) (holds_none bs bound k) (binding_at bs b).sources)
+
+not_own : (xs : List (Option ℕ)) (m : Marks) (n : ℕ) → contains m n ≡ true → own_new xs m n ≡ false
+unfolding own_new
+not_own [] m n h = refl
+not_own (none ∷ xs) m n h = not_own xs m n h
+not_own (some x ∷ xs) m n h = rw (h, and_false (eqb x n), not_own xs m n h)
+  where
+    and_false : (b : Bool) → (b && false) ≡ false
+    and_false true = refl
+    and_false false = refl
+
+-- a name that came by the pattern is one of its own
+is_own : (xs : List (Option ℕ)) (m m' : Marks) (n : ℕ) → contains m n ≡ false → contains m' n ≡ false → contains (bind_all xs m') n ≡ true → own_new xs m n ≡ true
+unfolding own_new bind_all
+is_own [] m m' n h g q = false_true (sym g ∙ q)
+is_own (none ∷ xs) m m' n h g q = is_own xs m m' n h g q
+is_own (some x ∷ xs) m m' n h g q = by_test (eqb x n) refl (λ o. is_own xs m (insert m' x) n h (get_or-set_other m' x n true false (λ e. o (sym e)) ∙ g) q)
+  where
+    by_test : (c : Bool) → eqb x n ≡ c → ((x ≡ n → ⊥) → own_new xs m n ≡ true) → ((c && not (contains m n)) || own_new xs m n) ≡ true
+    by_test true e f = rw h refl
+    by_test false e f = f (eqb-false x n e)
+
+-- so (c) asks for the names that were not there before
+own_is : (xs : List (Option ℕ)) (m : Marks) (n : ℕ) → contains (bind_all xs m) n ≡ true → own_new xs m n ≡ not (contains m n)
+own_is xs m n q = by_test (contains m n) refl where
+  by_test : (c : Bool) → contains m n ≡ c → own_new xs m n ≡ not c
+  by_test true h = not_own xs m n h
+  by_test false h = is_own xs m m n h h q
+
+module _ (bs : List BindingRow) (m : Marks) (q : ℕ) (ws : List ℕ) where
+  abbrev xs : List (Option ℕ)
+  xs = patterns_in (drop 7 ws)
+
+  uses_asked : (env : Environment) → uses (own_new xs m) bs (bind_all xs m) q ≡ answer true env bs m (bind_all xs m) q
+  unfolding uses answer found asked_name asked_call
+  uses_asked env = holds_like (own_new xs m) (λ n. not (contains m n)) nowhere bs (bind_all xs m) (own_is xs m) (suc q) q
+
+  -- no name is new
+  uses_none : bind_all xs m ≡ m → uses (own_new xs m) bs (bind_all xs m) q ≡ false
+  unfolding uses
+  uses_none h = rw h (holds_like (own_new xs m) nowhere nowhere bs m (λ n e. not_own xs m n e) (suc q) q ∙ holds_none bs m (suc q) q)
+
+  pub own_none : bind_all xs m ≡ m → false ≡ own_used bs m q ws
+  unfolding own_used
+  own_none h = by_test (is_constant (constraint_of ws)) where
+    by_test : (c : Bool) → false ≡ (not c && uses (own_new xs m) bs (bind_all xs m) q)
+    by_test true = refl
+    by_test false = sym (uses_none h)
+
+  pub own_constant : is_constant (constraint_of ws) ≡ true → false ≡ own_used bs m q ws
+  unfolding own_used
+  own_constant h = rw h refl
+
+  pub own_asked : (env : Environment) → is_constant (constraint_of ws) ≡ false → answer true env bs m (bind_all xs m) q ≡ own_used bs m q ws
+  unfolding own_used
+  own_asked env h = rw h (sym (uses_asked env))
+
+-- the first source of a binding
+pub first_source : (words rows tables : List ℕ) (t b : ℕ) → nth (get_or (table_rows words rows tables t) b []) 6 ≡ get_or (binding_at (bindings_in words rows tables t) b).sources 0 0
+unfolding binding_of
+first_source words rows tables t b = rw (binding_is (table_rows words rows tables t) b) (sym (get_or-drop 6 (get_or (table_rows words rows tables t) b []) 0 0))
+
+-- STEPS
+
+module _ {words rows tables : List ℕ} {t : ℕ} where
+  no_fault : (x : Environment → List BindingRow → Bool) → ((env : Environment) (bs : List BindingRow) → x env bs ≡ false) → Decides words rows tables t x false
+  no_fault x h = record { is = λ env y l. sym (h env (bindings_in words rows tables t)) }
+
+  pub judges_loop : {m m' : Marks} {kept : List ℕ} {s : Step} (result l : ℕ) (rs : List Row) → m' ≡ insert m result → Ready words rows tables t m' s.number kept → opens_told s.opens ≡ some body
+      → s.a ≡ not (contains m (get_or (binding_at (bindings_in words rows tables t) result).sources 0 0)) → s.b ≡ false → s.c ≡ false → JudgesStep words rows tables t (Loop result) l rs m m' kept s
+  unfolding inside opens loop_unbound check_calls match_uses_own
+  judges_loop {m} {m'} {kept} {s} result l rs n r o a b c = record {
+    ready = r;
+    names = λ p xs. n;
+    frame = λ p xs. o;
+    faults_a = record { is = λ env x y. a };
+    faults_b = record { is = λ env x y. b };
+    faults_c = record { is = λ env x y. c };
+  }
+
+  pub judges_equal : {m : Marks} {kept : List ℕ} {s : Step} {first second : Bool} (a b l : ℕ) (rs : List Row) → Ready words rows tables t m s.number kept → opens_told s.opens ≡ some body
+      → Decides words rows tables t (λ env bs. calls env bs m a) first → Decides words rows tables t (λ env bs. calls env bs m b) second → s.b ≡ (first || second) → s.a ≡ false → s.c ≡ false → JudgesStep words rows tables t (Equal a b) l rs m m kept s
+  unfolding inside opens loop_unbound check_calls match_uses_own
+  judges_equal a b l rs r o d e h x z = record {
+    ready = r;
+    names = λ p xs. refl;
+    frame = λ p xs. o;
+    faults_a = record { is = λ env y w. x };
+    faults_b = record { is = λ env y w. h ∙ rw (d.is env y w, e.is env y w) };
+    faults_c = record { is = λ env y w. z };
+  }
+
+  pub judges_return : {m : Marks} {kept : List ℕ} {s : Step} (result pos l : ℕ) (rs : List Row) → Ready words rows tables t m s.number kept → opens_told s.opens ≡ none
+      → Decides words rows tables t (λ env bs. calls env bs m result) s.b → s.a ≡ false → s.c ≡ false → JudgesStep words rows tables t (Return result pos) l rs m m kept s
+  unfolding inside opens loop_unbound check_calls match_uses_own
+  judges_return result pos l rs r o d x z = record {
+    ready = r;
+    names = λ p xs. refl;
+    frame = λ p xs. o;
+    faults_a = record { is = λ env y w. x };
+    faults_b = d;
+    faults_c = record { is = λ env y w. z };
+  }
+
+-- a match of level l before the rows from row r on, by its arms
+module _ (words rows : List ℕ) (l r last : ℕ) where
+  abbrev after : List Row
+  after = rows_from words rows last r
+
+  abbrev Arm : List Row → Type 0
+  Arm rs = (m : Marks) (bs : List BindingRow) (q : ℕ)
+      → (match_inside (arm_count l rs) rs m ≡ arm_names (arms_in l rs) (cut words rows r) m)
+      × (match_opens q (arm_count l rs) rs ≡ opened_by (arms_in l rs) q)
+      × (source_uses_own bs m q (arm_count l rs) rs ≡ arm_own (arms_in l rs) bs m q (cut words rows r))
+
+  by_count : (k : ℕ) (rs : List Row) (n : ℕ) (c : Bool) → eqb n 1 ≡ c → (m : Marks) (bs : List BindingRow) (q : ℕ)
+      → (match_inside n (arm k (constraint_of (cut words rows r)) (patterns_in (drop 7 (cut words rows r))) ∷ rs) m ≡ arm_names (cond c One Several) (cut words rows r) m)
+      × (match_opens q n (arm k (constraint_of (cut words rows r)) (patterns_in (drop 7 (cut words rows r))) ∷ rs) ≡ opened_by (cond c One Several) q)
+      × (source_uses_own bs m q n (arm k (constraint_of (cut words rows r)) (patterns_in (drop 7 (cut words rows r))) ∷ rs) ≡ arm_own (cond c One Several) bs m q (cut words rows r))
+  unfolding match_inside match_opens source_uses_own own_used
+  by_count k rs n true h m bs q = (rw h refl, rw h refl, rw h refl)
+  by_count k rs n false h m bs q = (rw h refl, rw h refl, rw h refl)
+
+  by_kind : (c : Bool) → ltb (nth (cut words rows r) 1) 4 ≡ c → (rs : List Row) → Arm (block_of (cut words rows r) ∷ rs)
+  unfolding match_inside match_opens source_uses_own arms_in
+  by_kind true h rs = rw (step_is (cut words rows r) h) (λ m bs q. (refl, refl, refl))
+  by_kind false h rs = rw (arm_is (cut words rows r) h) (by_count (nth (cut words rows r) 0) rs (arm_count l (arm (nth (cut words rows r) 0) (constraint_of (cut words rows r)) (patterns_in (drop 7 (cut words rows r))) ∷ rs)) _ refl)
+
+  match_arms : Arm after
+  unfolding match_inside match_opens source_uses_own arms_in
+  match_arms = by_room (ltb r last) refl
+    where
+      by_room : (c : Bool) → ltb r last ≡ c → Arm after
+      by_room true h = rw (rows_next words rows r last (ltb-true r last h)) (by_kind (ltb (nth (cut words rows r) 1) 4) refl (rows_from words rows last (r + 1)))
+      by_room false h = rw (rows_none words rows r last (ltb-false r last h)) (λ m bs q. (refl, refl, refl))
+
+  -- what a match does, by its arms
+  pub judges_match : {tables : List ℕ} {t : ℕ} {arms : Arms} {m m' : Marks} {kept : List ℕ} {s : Step} (q : ℕ) → arms ≡ arms_in l after → m' ≡ arm_names arms (cut words rows r) m → Ready words rows tables t m' s.number kept → opens_told s.opens ≡ opened_by arms q
+      → Decides words rows tables t (λ env bs. calls env bs m' q) s.b → Decides words rows tables t (λ env bs. arm_own arms bs m q (cut words rows r)) s.c → s.a ≡ false → JudgesStep words rows tables t (Match q) l after m m' kept s
+  unfolding inside opens loop_unbound check_calls match_uses_own
+  judges_match {tables} {t} {arms} {m} {m'} {kept} {s} q e n y o b c x =
+      let names : m' ≡ match_inside (arm_count l after) after m = n ∙ ap (λ (a : Arms). arm_names a (cut words rows r) m) e ∙ sym (match_arms m [] q).0 in
+      record {
+        ready = y;
+        names = λ p xs. names;
+        frame = λ p xs. o ∙ ap (λ (a : Arms). opened_by a q) e ∙ sym (match_arms m [] q).1;
+        faults_a = record { is = λ env z w. x };
+        faults_b = record { is = λ env z w. b.is env z w ∙ ap (λ (u : Marks). calls env (bindings_in words rows tables t) u q) names };
+        faults_c = record { is = λ env z w. c.is env z w ∙ ap (λ (a : Arms). arm_own a (bindings_in words rows tables t) m q (cut words rows r)) e ∙ sym (match_arms m (bindings_in words rows tables t) q).2 };
+      }
+
+-- ROWS
+
+module _ {words rows tables : List ℕ} {t : ℕ} {m m' : Marks} {scopes : List (List Bool)} {top : ℕ} {scope : List Bool} {scopes' : List (List Bool)} {kept : List ℕ} (ws : List ℕ) (rs : List Row) where
+  pub judges_arm : {p : Purpose} {s : Step} → ltb (nth ws 1) 4 ≡ false → JudgesArm words rows tables t p (patterns_in (drop 7 ws)) m m' kept s → Saved (nth ws 1) scopes top scope scopes' → set_of scope ≡ m → JudgesRow words rows tables t p (nth ws 1) (block_of ws) rs m m' scopes top scopes' kept s
+  unfolding inside opens after_list row_faults
+  judges_arm {p} {s} h a v o = rw (arm_is ws h) (record {
+    ready = a.ready;
+    names = a.names;
+    frame = a.frame;
+    scope = scope;
+    saved = v;
+    outside = o;
+    faults_a = record { is = λ env x l. a.none_a };
+    faults_b = record { is = λ env x l. a.none_b };
+    faults_c = record { is = λ env x l. a.none_c };
+  })
+
+  pub judges_step : {p : Purpose} {s s' : Step} {found : Bool} → ltb (nth ws 1) 4 ≡ true → JudgesStep words rows tables t (control_flow_of ws) (nth ws 0) rs (listed (drop 7 ws) m) m' kept s → Decides words rows tables t (λ env bs. list_calls env bs m (drop 7 ws)) found
+      → Saved (nth ws 1) scopes top scope scopes' → set_of scope ≡ listed (drop 7 ws) m → s'.a ≡ s.a → s'.b ≡ (found || s.b) → s'.c ≡ s.c → s'.number ≡ s.number → s'.opens ≡ s.opens → JudgesRow words rows tables t p (nth ws 1) (block_of ws) rs m m' scopes top scopes' kept s'
+  unfolding after_list row_faults
+  judges_step {p} {s} {s'} {found} h j d v o a b c n q = rw (step_is ws h) (record {
+    ready = rw n j.ready;
+    names = j.names p (drop 7 ws);
+    frame = ap opens_told q ∙ j.frame p (drop 7 ws);
+    scope = scope;
+    saved = v;
+    outside = o;
+    faults_a = record { is = λ env x l. a ∙ j.faults_a.is env x l };
+    faults_b = record { is = λ env x l. b ∙ rw (d.is env x l, j.faults_b.is env x l) };
+    faults_c = record { is = λ env x l. c ∙ j.faults_c.is env x l };
+  })

@@ -1,0 +1,4 @@
+pub mod Ready
+pub mod Arms
+pub mod Step
+pub mod Row

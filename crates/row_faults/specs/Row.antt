@@ -1,0 +1,35 @@
+-- What is found of a row, and what the row does to the names. Assumes nothing: these are definitions.
+use Rattle.std.specs.Prelude.{ℕ, ◌≡◌, Bool, false, List}
+use Rattle.std.proofs.Math.Option.{Option}
+use Rattle.plan.specs.Row.{Row}
+use Rattle.codegen.specs.Writer.{Marks}
+use Rattle.codegen.specs.Block.{Purpose}
+use Rattle.origin.specs.Names.{after_list, arm_inside, inside, arm_opens, opens}
+use Rattle.row_frames.specs.Scopes.{Saved}
+use Rattle.row_frames.specs.Told.{opens_told}
+use Rattle.emits.specs.Marks.{set_of}
+use Rattle.schedule_rules.specs.Faults.{row_faults}
+use Rattle.row_faults.specs.Ready.{Ready, Decides}
+use Rattle.row_faults.specs.declared.check.Step.{Step}
+
+-- an arm with the pattern xs, inside a frame of the purpose p: the names are m before and m' inside the frame that it opens
+pub record JudgesArm (words rows tables : List ℕ) (t : ℕ) (p : Purpose) (xs : List (Option ℕ)) (m m' : Marks) (kept : List ℕ) (s : Step) : Type 0 where
+  pub ready : Ready words rows tables t m' s.number kept
+  pub names : m' ≡ arm_inside p xs m
+  pub frame : opens_told s.opens ≡ arm_opens p
+  pub none_a : s.a ≡ false
+  pub none_b : s.b ≡ false
+  pub none_c : s.c ≡ false
+
+-- a row of a kind before the rows rs: the names are m before and m' inside the frame that it opens, and those where that closes are kept at
+-- the place `top`
+pub record JudgesRow (words rows tables : List ℕ) (t : ℕ) (p : Purpose) (kind : ℕ) (row : Row) (rs : List Row) (m m' : Marks) (scopes : List (List Bool)) (top : ℕ) (scopes' : List (List Bool)) (kept : List ℕ) (s : Step) : Type 0 where
+  pub ready : Ready words rows tables t m' s.number kept
+  pub names : m' ≡ inside p row rs (after_list row m)
+  pub frame : opens_told s.opens ≡ opens p row rs
+  pub scope : List Bool
+  pub saved : Saved kind scopes top scope scopes'
+  pub outside : set_of scope ≡ after_list row m
+  pub faults_a : Decides words rows tables t (λ env bs. (row_faults env bs m row rs).a) s.a
+  pub faults_b : Decides words rows tables t (λ env bs. (row_faults env bs m row rs).b) s.b
+  pub faults_c : Decides words rows tables t (λ env bs. (row_faults env bs m row rs).c) s.c

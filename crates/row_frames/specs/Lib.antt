@@ -1,0 +1,4 @@
+pub mod Patterns
+pub mod Rows
+pub mod Scopes
+pub mod Told

@@ -1,0 +1,40 @@
+use mathlib.Core.Path.{refl, ap, ◌∙◌}
+use native.Mathlib.Omega.{arith}
+use Rattle.tokens.specs.Token.{place, rising}
+use Rattle.values.proofs.Laws.{◌⟫◌, wrote_none}
+use Rattle.rows.proofs.Laws.{row_has, row_lacks, type_names}
+use Rattle.rows.specs.Row.{type_words}
+use Rattle.rows.proofs.put_type.Goals as goal
+
+pub returns-then-columns-ne6 : goal.returns-then-columns-ne6
+unfolding type_words
+returns-then-columns-ne6 c = rw (row_lacks 6 _ _ _ c.columns.ensures.0 (omega arith) c.if-columns-ne6.true) (wrote_none _)
+
+pub column-requires : goal.column-requires
+column-requires c = (c.columns.ensures.1, omega arith, omega (arith, c.columns.ensures.0, c.if-columns-ne6.false))
+
+pub find_name-k-requires : goal.find_name-k-requires
+unfolding rising
+find_name-k-requires c = refl
+
+pub column-requires-2 : goal.column-requires-2
+column-requires-2 c = (c.columns.ensures.1, omega arith, omega (arith, c.columns.ensures.0, c.if-columns-ne6.false))
+
+pub column-requires-3 : goal.column-requires-3
+column-requires-3 c = (c.columns.ensures.1, omega arith, omega (arith, c.columns.ensures.0, c.if-columns-ne6.false))
+
+pub column-requires-4 : goal.column-requires-4
+column-requires-4 c = (c.columns.ensures.1, omega arith, omega (arith, c.columns.ensures.0, c.if-columns-ne6.false))
+
+pub column-requires-5 : goal.column-requires-5
+column-requires-5 c = (c.columns.ensures.1, omega arith, omega (arith, c.columns.ensures.0, c.if-columns-ne6.false))
+
+pub column-requires-6 : goal.column-requires-6
+column-requires-6 c = (c.columns.ensures.1, omega arith, omega (arith, c.columns.ensures.0, c.if-columns-ne6.false))
+
+pub shape_of-out : goal.shape_of-out
+shape_of-out c = c.put_list.ensures.size ∙ c.put_cell-p5.ensures.size ∙ c.put_cell-p4.ensures.size ∙ c.put_cell-p3.ensures.size ∙ c.put_cell-p2.ensures.size ∙ c.put_kind-p1.ensures.size
+
+pub returns : goal.returns
+unfolding type_words
+returns c = rw (row_has 6 _ _ _ c.columns.ensures.0 (omega arith) c.if-columns-ne6.false, ← c.column.ensures, ← c.column-2.ensures, ← c.column-3.ensures, ← c.column-4.ensures, ← c.column-5.ensures, ← c.column-6.ensures, ← (c.find_name-k.ensures ∙ ap (λ names. place names c.column.result.now) type_names), ← c.sort_of-bits.ensures, ← c.sort_of.ensures, ← c.sort_of-2.ensures) (c.put_kind-p1.ensures ⟫ c.put_cell-p2.ensures ⟫ c.put_cell-p3.ensures ⟫ c.put_cell-p4.ensures ⟫ c.put_cell-p5.ensures ⟫ c.put_list.ensures)

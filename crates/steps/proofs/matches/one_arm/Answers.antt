@@ -1,0 +1,5 @@
+use Rattle.step_parts.specs.Leads.{lines_words}
+use Rattle.steps.proofs.matches.one_arm.Goals as goal
+
+pub returns : goal.returns
+returns c = (λ env y i fs f d g. lines_words d c.put_indent-at.ensures (rw c.bind_all.ensures at (c.one_arm_head-w.ensures env y f g)) c.put_byte-at.ensures, c.bind_all.ensures)

@@ -1,0 +1,25 @@
+use mathlib.Core.Path.{sym, ◌∙◌}
+use native.Mathlib.Omega.{arith}
+use Rattle.tokens.specs.Token.{told}
+use Rattle.plan.specs.Layout.{number, ◌⊛◌, function_kind}
+use Rattle.values.proofs.Laws.{told_none, told_some, number_small}
+use Rattle.values.proofs.read_function_kind.Goals as goal
+
+pub returns-then-equal : goal.returns-then-equal
+unfolding function_kind ◌⊛◌ told
+returns-then-equal c = rw (sym c.equal.ensures ∙ c.if-equal.true)
+
+pub returns-then-equal-2 : goal.returns-then-equal-2
+unfolding function_kind ◌⊛◌ told
+returns-then-equal-2 c = rw (sym c.equal.ensures ∙ c.if-equal.false, sym c.equal-2.ensures ∙ c.if-equal-2.true)
+
+pub returns-in_default : goal.returns-in_default
+unfolding function_kind ◌⊛◌ told
+returns-in_default c = rw (sym c.equal.ensures ∙ c.if-equal.false, sym c.equal-2.ensures ∙ c.if-equal-2.false, told_none (number c.args.t.now) (sym c.read_number-r.ensures ∙ c.in_default.is))
+
+pub overflow_add-result : goal.overflow_add-result
+overflow_add-result c = omega (arith, number_small _ _ (told_some (number c.args.t.now) _ (sym c.read_number-r.ensures ∙ c.in-Value.is)))
+
+pub returns : goal.returns
+unfolding function_kind ◌⊛◌ told
+returns c = rw (sym c.equal.ensures ∙ c.if-equal.false, sym c.equal-2.ensures ∙ c.if-equal-2.false, told_some (number c.args.t.now) _ (sym c.read_number-r.ensures ∙ c.in-Value.is))

@@ -1,0 +1,15 @@
+use borrow.Author.Tests.{eq-eqb, ne_eqb}
+use Rattle.rows.specs.View.{shape_of}
+use Rattle.view.proofs.environment.shape_made.Goals as goal
+
+pub returns-then-k-eq0 : goal.returns-then-k-eq0
+unfolding shape_of
+returns-then-k-eq0 c = λ ws. rw (eq-eqb _ _ c.if-k-eq0.true)
+
+pub returns-then-k-eq1 : goal.returns-then-k-eq1
+unfolding shape_of
+returns-then-k-eq1 c = λ ws. rw (ne_eqb _ _ c.if-k-eq0.false, eq-eqb _ _ c.if-k-eq1.true)
+
+pub returns : goal.returns
+unfolding shape_of
+returns c = λ ws. rw (ne_eqb _ _ c.if-k-eq0.false, ne_eqb _ _ c.if-k-eq1.false)

@@ -1,0 +1,86 @@
+"""The wrong answers of the must-fail edits, and what the checker says of each."""
+
+import pathlib
+import re
+
+ROOT = pathlib.Path(__file__).resolve().parent.parent
+LOGS = ROOT / "target/must-fail"
+# What shows nothing: a proof file that names a goal that the edited code no longer has, and what waits for a part that is refused.
+SHOWS_NOTHING = re.compile(r"that can be named from here|which was (?:rejected|not admitted)|cannot be checked")
+# A proof file that names a step that the edited code no longer has. Such a refusal shows nothing either, but is still taken.
+UNFIT = re.compile(r"has no field|is not in scope")
+
+
+class WrongAnswer:
+    """Where it must be refused, the functions that it is told to guard, and its replacements: lines `file:`, `old:` and `new:`."""
+
+    def __init__(self, place):
+        self.place, self.guarded, self.lines = place, [], []
+
+    def function(self):
+        return self.place.partition(" at ")[0]
+
+
+def wrong_answers(edit):
+    """Those of an edit; none if a replacement stands before the first `fails:` line."""
+    found = []
+    for line in edit.read_text().splitlines():
+        if line.startswith("fails: "):
+            found.append(WrongAnswer(line.removeprefix("fails: ")))
+        elif line.startswith(("file: ", "old: ", "new:", "of: ")) and not found:
+            return []
+        elif line.startswith("of: "):
+            found[-1].guarded.append(line.removeprefix("of: "))
+        elif line.startswith(("file: ", "old: ", "new:")):
+            found[-1].lines.append(line)
+    return found
+
+
+def apply(lines, where):
+    """Makes the replacements in a copy of the crate; each old text must stand in its file once. Says what is wrong."""
+    file = old = None
+    for line in lines:
+        if line.startswith("file: "):
+            file = where / line.removeprefix("file: ")
+        elif line.startswith("old: "):
+            old = line.removeprefix("old: ")
+        elif line.startswith("new:"):
+            text = file.read_text()
+            if text.count(old) != 1:
+                return f"stands {text.count(old)} times: {old}"
+            file.write_text(text.replace(old, line.removeprefix("new:").removeprefix(" ")))
+    return None
+
+
+def log_of(edit, number=None):
+    """What was said of an edit, or of its wrong answer of this number alone."""
+    return LOGS / edit.parent.parent.name / edit.stem / (".log" if number is None else f".log-{number}")
+
+
+def proof_of(function):
+    """The paths of a function's proof files inside its crate, as a pattern. A function that calls itself has a plus sign before its name;
+    functions that call one another have a folder with a name of their own."""
+    *modules, name = function.split("::")[1:]
+    return "/".join(["proofs", *modules, rf"(?:{name}|\+{name}|\+\w+)", r"(?:Answers|Invariants|Proof)\.antt"])
+
+
+def refused_facts(place, log):
+    """What the check says of the facts of this place itself that it refused: of all, or of the one that is named."""
+    place, _, fact = place.partition(" at ")
+    said, file = [], re.escape(place)
+    if "::" in place:
+        # A goal that has no answer in a file, and that the checker does not find by itself.
+        without = re.compile(rf"fn {file}: no proof: .*did not prove `([^`]+)`")
+        said = [line for line in log if (found := without.match(line)) and fact in ("", found[1])]
+        file = proof_of(place)
+    at = re.compile(rf"(?:\S*/)?{file}:\d+:\d+: error: (.*)")
+    said += [found[1] for line in log if (found := at.match(line)) and found[1].startswith(f"`{fact}`" if fact else "`")]
+    return [text for text in said if not SHOWS_NOTHING.search(text)]
+
+
+def shown(edit, number, answer):
+    """The facts of the wrong answer's place that were refused, in the check of the whole edit, or else in one of this wrong answer alone."""
+    for log in (log_of(edit), log_of(edit, number)):
+        if log.is_file() and (said := refused_facts(answer.place, log.read_text().splitlines())):
+            return said
+    return []
