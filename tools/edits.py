@@ -5,10 +5,8 @@ import re
 
 ROOT = pathlib.Path(__file__).resolve().parent.parent
 LOGS = ROOT / "target/must-fail"
-# What shows nothing: a proof file that names a goal that the edited code no longer has, and what waits for a part that is refused.
-SHOWS_NOTHING = re.compile(r"that can be named from here|which was (?:rejected|not admitted)|cannot be checked")
-# A proof file that names a step that the edited code no longer has. Such a refusal shows nothing either, but is still taken.
-UNFIT = re.compile(r"has no field|is not in scope")
+# What shows nothing: a proof file that names a goal or a step that the edited code no longer has, and what waits for a part that is refused.
+SHOWS_NOTHING = re.compile(r"that can be named from here|has no field|is not in scope|which was (?:rejected|not admitted)|cannot be checked")
 
 
 class WrongAnswer:

@@ -1,25 +1,20 @@
 -- Demand 1, of the entries `emit`, `emit_terms` and `emit_items` (emitter/src/lib.rt). For any plan and any buffer the contract of `emit`
 -- says `Answers (answer plan (length before)) r before after` of its result r and the buffer before and after; those of `emit_terms` and
--- `emit_items` say the same with `terms-answer` and `items-answer`. So what is proved here from `Answers` holds of each of their calls.
+-- `emit_items` say the same with `terms_answer` and `items_answer`. So what is proved here from `Answers` holds of each of their calls.
 -- Assumes nothing.
-use Rattle.std.specs.Prelude.{zero, ℕ, suc, ◌≤◌, ◌≡◌, Bool, List, ◌++◌, drop}
+use Rattle.std.specs.Prelude.{zero, ℕ, suc, ◌≤◌, ◌≡◌, Bool, List}
 use Rattle.std.proofs.Math.Path.{refl}
 use Rattle.std.proofs.Common.{sym, ◌∙◌, arith, ne_eqb, leb-true}
 use Rattle.std.proofs.Math.Bool.{true, false, cond}
-use Rattle.std.proofs.Math.Option.{some}
 use Rattle.std.proofs.Math.Dec.{leb}
 use Rattle.std.proofs.Math.ListN.{length}
 use Rattle.plan.specs.Plan.{Plan}
-use Rattle.plan.specs.Layout.{read}
-use Rattle.plan.specs.Refusal.{Outcome, refused, accepted, outcome}
-use Rattle.codegen.specs.Piece.{render}
-use Rattle.codegen.specs.Items.{items}
+use Rattle.plan.specs.Refusal.{Outcome, accepted, outcome}
 use Rattle.codegen.specs.Terms.{terms_text, odds}
-use Rattle.codegen.specs.Answer.{Answer, refuse, answer, terms_answer, whole_text}
+use Rattle.codegen.specs.Answer.{refuse, answer, terms_answer, whole_text}
 use Rattle.codegen.specs.AnswerLaws.{Judged, turned_away, taken, judged_outcome}
 use Rattle.splitting.specs.Cases.{false_true}
 use Rattle.splitting.specs.Accepted.{accepted_read}
-use Rattle.splitting.specs.Demand3.{count}
 use Rattle.emitter.specs.declared.Emitted.{Emitted}
 use Rattle.emitter.specs.declared.Emitted.TheVariants.{Refused, Text}
 use Rattle.emitter.specs.declared.Form.{Form}
@@ -27,19 +22,8 @@ use Rattle.emitter.specs.declared.Form.TheVariants.{Whole, Terms, Items}
 use Rattle.emitter.specs.Answered.{Answers, items_answer}
 use Rattle.emitter.specs.Held.{form_text, form_count, answer_with, answer_in}
 use Rattle.emitter.specs.EntryLaws.{form_le, whole_is, terms_is, items_is}
-use Rattle.demands.specs.Checks.{checks, passes, FirstToFail, first_failing, all_pass, first_to_fail, number_given, first_check}
-
--- DEMAND 1: "A caller may hand over any bytes as a plan, and an output buffer of any length, and gets the text or one of the
--- refusals 1 to 11; a refusal gives length 0 and count 0 and changes no byte of the buffer."
--- Document 01: "Checks run over the whole plan in number order; the lowest number is given, and none otherwise."
-
--- of a text that is asked for, with its count, a plan's bytes and the buffer before: the result, and the buffer after
-pub data TextOrRefusal (form : Plan → List ℕ) (odd : Plan → ℕ) (plan before : List ℕ) : Emitted → List ℕ → Type 0 where
-  -- check n of the list (Checks.antt) fails, and every earlier one passes
-  refusal : (n : ℕ) → 1 ≤ n → n ≤ 11 → FirstToFail (checks form plan (length before)) n → TextOrRefusal form odd plan before (Refused n) before
-  -- every check passes, and the text and the count are those of the plan that the bytes are read as
-  text : (p : Plan) → read plan ≡ some p → outcome plan ≡ accepted p → ((n : ℕ) → passes (checks form plan (length before)) n ≡ true) → length (form p) ≤ length before → odd p ≤ length (form p)
-      → TextOrRefusal form odd plan before (Text (length (form p)) (odd p)) (form p ++ drop (length (form p)) before)
+use Rattle.demands.specs.Checks.{checks, first_failing, all_pass, first_to_fail, number_given, first_check}
+use Rattle.demands.specs.Demand1.{TextOrRefusal, refusal, text, items_text}
 
 module _ (f : Form) (plan before : List ℕ) where
   abbrev list : List Bool
@@ -76,10 +60,6 @@ demand_1 plan before {r} q = text_or_refusal Whole plan before r (rw (whole_is p
 
 pub demand_1_terms : (plan before : List ℕ) {r : Emitted} {after : List ℕ} → Answers (terms_answer plan (length before)) r before after → TextOrRefusal terms_text odds plan before r after
 demand_1_terms plan before {r} q = text_or_refusal Terms plan before r (rw (terms_is plan (length before)) q)
-
--- header, trait and types: no literals stand there
-abbrev pub items_text : Plan → List ℕ
-items_text p = render p.env 0 (items p)
 
 pub demand_1_items : (plan before : List ℕ) {r : Emitted} {after : List ℕ} → Answers (items_answer plan (length before)) r before after → TextOrRefusal items_text (λ p. 0) plan before r after
 demand_1_items plan before {r} q = text_or_refusal Items plan before r (rw (items_is plan (length before)) q)

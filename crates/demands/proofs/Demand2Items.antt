@@ -1,23 +1,21 @@
 -- Demand 2, of the entry `emit_items`: header, trait and types alone. Assumes nothing.
-use Rattle.std.specs.Prelude.{ℕ, ◌≤◌, ◌≡◌, refl, List, length, drop, take}
+use Rattle.std.specs.Prelude.{ℕ, ◌≤◌, ◌≡◌, refl, List, length, drop}
 use Rattle.std.proofs.Common.{sym, ◌∙◌, le-leb}
-use Rattle.std.proofs.Math.Option.{Option}
 use Rattle.std.proofs.Math.Seq.{take-append_seam}
-use Rattle.literal.specs.declared.builtin_type.IntType.{IntType}
 use Rattle.plan.specs.Plan.{Plan}
 use Rattle.plan.specs.Refusal.{accepted, outcome}
 use Rattle.codegen.specs.Items.{items}
-use Rattle.codegen.specs.Answer.{Answer, answer_of}
+use Rattle.codegen.specs.Answer.{answer_of}
 use Rattle.splitting.specs.Cases.{false_true}
-use Rattle.splitting.specs.Demand3.{number, count}
-use Rattle.read_back.specs.Tokens.{string, integer, joined, piece_tokens, ◌∈◌}
 use Rattle.read_back.proofs.TokenLaws.{joined_pieces}
 use Rattle.read_back.proofs.Theorems.{whole_text_origins}
 use Rattle.emitter.specs.declared.Emitted.{Emitted}
 use Rattle.emitter.specs.declared.Emitted.TheVariants.{Refused, Text}
 use Rattle.emitter.specs.Answered.{Answers, items_answer}
-use Rattle.demands.proofs.Demand1.{TextOrRefusal, text, items_text, demand_1_items}
+use Rattle.demands.specs.Demand1.{TextOrRefusal, text, items_text}
 use Rattle.demands.specs.Demand2.{Writes}
+use Rattle.demands.specs.Demand2Items.{NoLiterals}
+use Rattle.demands.proofs.Demand1.{demand_1_items}
 
 -- "For every plan that passes refusals 1 to 10, with a buffer long enough: the bytes are those that the crate's release build writes";
 -- no literals stand there, so the count is 0
@@ -28,15 +26,6 @@ demand_2_items plan before p {r} {after} e h q = by_result r (rw (le-leb (length
     by_result : (r : Emitted) → Answers (record { number = 0; length = length (items_text p); count = 0; text = items_text p }) r before after → Writes (items_text p) 0 before r after
     by_result (Refused n) q = false_true q.written
     by_result (Text l k) q = record { result = rw (q.length, q.count) refl; bytes = q.bytes }
-
--- "Read back one by one by the Rust Reference": there are no literals and no quoted texts to read back
-pub record NoLiterals (plan : List ℕ) (l k : ℕ) (after : List ℕ) : Type 0 where
-  pub p : Plan
-  pub is : outcome plan ≡ accepted p
-  pub text_is : take l after ≡ joined (piece_tokens p.env 0 (items p))
-  pub no_texts : {s : List ℕ} → string s ∈ piece_tokens p.env 0 (items p) → ⊥
-  pub no_integers : {t : Option IntType} {v : ℕ} → integer t v ∈ piece_tokens p.env 0 (items p) → ⊥
-  pub count : k ≡ 0
 
 pub demand_2_read_back_items : (plan before : List ℕ) {l k : ℕ} {after : List ℕ} → Answers (items_answer plan (length before)) (Text l k) before after → NoLiterals plan l k after
 demand_2_read_back_items plan before q = go (demand_1_items plan before q)

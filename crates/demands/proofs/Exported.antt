@@ -1,7 +1,7 @@
--- The three demands, of the C functions `rizhavel_whole`, `rizhavel_terms` and `rizhavel_items` (emitter/src/exports.rt). Their contracts
--- say `Exports (answer plan (length before)) n before after told told'`, or the same with `terms-answer` or `items-answer`, of the number n
+-- The three demands, of the C functions `rizhavel_whole`, `rizhavel_terms` and `rizhavel_items` (emitter_c/src/lib.rt). Their contracts
+-- say `Exports (answer plan (length before)) n before after told told'`, or the same with `terms_answer` or `items_answer`, of the number n
 -- that is returned, the buffer before and after, and the lent slice of numbers before and after, however short. Assumes nothing.
-use Rattle.std.specs.Prelude.{ℕ, zero, suc, ◌≤◌, ◌≡◌, refl, Bool, true, false, cond, List, [], ◌∷◌, leb, eqb, length, get_or, take}
+use Rattle.std.specs.Prelude.{ℕ, zero, suc, ◌≤◌, ◌≡◌, refl, Bool, true, false, cond, List, [], ◌∷◌, leb, length, get_or, take}
 use Rattle.std.proofs.Common.{sym, ◌∙◌, arith, ne_eqb}
 use Rattle.std.proofs.Math.Option.{some}
 use Rattle.std.proofs.lemmas.List.Edits.{sets}
@@ -12,28 +12,19 @@ use Rattle.codegen.specs.Items.{items}
 use Rattle.codegen.specs.Terms.{terms_text, odds}
 use Rattle.codegen.specs.Answer.{Answer, refuse, answer_of, answer, terms_answer, whole_text}
 use Rattle.codegen.specs.TakeOff.{closures_off, closures_off_terms}
-use Rattle.splitting.specs.Demand3.{SplitPair, SplitBytes, number, count}
+use Rattle.splitting.specs.Demand3.{SplitPair, SplitBytes}
 use Rattle.read_back.specs.Tokens.{piece_tokens, whole_tokens, terms_tokens}
 use Rattle.emitter.specs.declared.Emitted.{Emitted}
 use Rattle.emitter.specs.declared.Emitted.TheVariants.{Refused, Text}
-use Rattle.emitter.specs.Answered.{number_of, length_of, count_of, is_text, Answers, Exports, items_answer}
-use Rattle.demands.proofs.Demand1.{TextOrRefusal, items_text, demand_1, demand_1_terms, demand_1_items}
+use Rattle.demands.specs.Exported.{Told, Where}
+use Rattle.emitter.specs.Answered.{Answers, Exports, items_answer}
+use Rattle.demands.specs.Demand1.{TextOrRefusal, items_text}
+use Rattle.demands.proofs.Demand1.{demand_1, demand_1_terms, demand_1_items}
 use Rattle.demands.specs.Demand2.{Writes, ReadBack, FromRows, demand_2, demand_2_terms, demand_2_read_back, demand_2_read_back_terms, demand_2_origins, demand_2_origins_terms}
-use Rattle.demands.proofs.Demand2Items.{NoLiterals, demand_2_items, demand_2_read_back_items}
+use Rattle.demands.specs.Demand2Items.{NoLiterals}
+use Rattle.demands.proofs.Demand2Items.{demand_2_items, demand_2_read_back_items}
 use Rattle.demands.specs.Demand2Boundaries.{Boundaries, demand_2_boundaries, demand_2_boundaries_terms}
 use Rattle.demands.specs.Demand3.{Closures, demand_3, demand_3_terms, demand_3_bytes, demand_3_bytes_terms, demand_3_closures, demand_3_closures_terms}
-
--- what a C function tells: of a result with the property P its number n, which is 0 for a text, and as the first two entries of the
--- slice its length and count, as far as there are such; the other entries are unchanged, and there are as many as before
-pub record Told (P : Emitted → Type 0) (n : ℕ) (told told' : List ℕ) : Type 0 where
-  pub result : Emitted
-  pub holds : P result
-  pub number : n ≡ number_of result
-  pub text : is_text result ≡ eqb n 0
-  pub entry_0 : 1 ≤ length told → get_or told' 0 0 ≡ length_of result
-  pub entry_1 : 2 ≤ length told → get_or told' 1 0 ≡ count_of result
-  pub others : (i : ℕ) → 2 ≤ i → get_or told' i 0 ≡ get_or told i 0
-  pub entries : length told' ≡ length told
 
 -- THE SLICE
 
@@ -100,11 +91,6 @@ module _ (plan before : List ℕ) {n : ℕ} {after told told' : List ℕ} (P : E
   pub rizhavel_items : ((r : Emitted) → Answers (items_answer plan (length before)) r before after → P r) → Exports (items_answer plan (length before)) n before after told told' → Told P n told told'
   unfolding items_answer
   rizhavel_items h e = told_of _ (λ g. ((nothing_given items_text (length before) (outcome plan) g).0, refl)) P h e
-
--- a property of a text's length and count, where there is a text
-abbrev pub Where : (ℕ → ℕ → Type 0) → Emitted → Type 0
-Where P (Refused n) = Unit
-Where P (Text l k) = P l k
 
 where_text : {a : Answer} {before after : List ℕ} (P : ℕ → ℕ → Type 0) → ((l k : ℕ) → Answers a (Text l k) before after → P l k) → (r : Emitted) → Answers a r before after → Where P r
 where_text P h (Refused n) q = tt

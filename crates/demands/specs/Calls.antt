@@ -6,7 +6,6 @@ use Rattle.plan.specs.Plan.{Plan}
 use Rattle.plan.specs.Refusal.{Outcome, refused, accepted, outcome}
 use Rattle.codegen.specs.Terms.{odds}
 use Rattle.codegen.specs.Answer.{refuse, answer_of}
-use Rattle.splitting.specs.Demand3.{number, count}
 use Rattle.splitting.specs.Accepted.{refused_number}
 use Rattle.emitter.specs.declared.Emitted.TheVariants.{Text}
 use Rattle.emitter.specs.Answered.{Answers}

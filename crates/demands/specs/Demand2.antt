@@ -15,7 +15,6 @@ use Rattle.codegen.specs.Terms.{terms_text, odds}
 use Rattle.codegen.specs.Items.{items}
 use Rattle.codegen.specs.Answer.{answer_of, answer, terms_answer, whole_text}
 use Rattle.splitting.specs.Cases.{false_true}
-use Rattle.splitting.specs.Demand3.{number, count}
 use Rattle.read_back.specs.Tokens.{Token, string, integer, joined, piece_tokens, whole_tokens, terms_tokens, odd_count, ReadsBack, Reads, ◌∈◌}
 use Rattle.read_back.specs.Origins.{Origins}
 use Rattle.read_back.proofs.Theorems.{whole_text_reads_back, terms_text_reads_back, whole_text_origins, terms_text_origins}

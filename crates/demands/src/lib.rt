@@ -1,3 +1,3 @@
-// The three demands as theorems about the entries, in specs/: Demand1, Demand2 and Demand3 have their sentences, Exported has the same of
-// the C functions. Nothing here runs.
+// The three demands as theorems about the entries: Demand1, Demand2 and Demand3 of specs/ have their sentences, Exported has the same of
+// the C functions; theorems that stand on the order of the checks are in proofs/, in files of the same names. Nothing here runs.
 #![tactic(auto)]
