@@ -9,7 +9,7 @@ KIT = pathlib.Path(shutil.which("rt") or "rt").resolve().parent.parent
 
 
 def needs():
-    """The repository's crates, each with those that it uses, as crates.txt lists them."""
+    """The repository's crates, each with those that it names, as crates.txt lists them."""
     found = {}
     for line in (ROOT / "crates.txt").read_text().splitlines():
         name, colon, rest = line.partition("#")[0].partition(":")
@@ -18,13 +18,23 @@ def needs():
     return found
 
 
+def below(crates):
+    """These crates and all that stand below them."""
+    uses, found, waiting = needs(), set(), list(crates)
+    while waiting:
+        if (crate := waiting.pop()) not in found:
+            found.add(crate)
+            waiting += uses[crate]
+    return sorted(found)
+
+
 def check(name, source, crates, *more):
-    """The command that checks a crate over these crates of the repository, which are built (`rt check` of a crate above them builds them)."""
+    """The command that checks a crate which names these crates of the repository, which are built (`rt check` of a crate above them builds them)."""
     rlibs = KIT / "rlibs"
     words = [str(KIT / "bin/rattle"), "check", "--crate-name", name, str(source), "--extern", f"std={rlibs}/std.rlib", "-L", f"dependency={rlibs}"]
-    for crate in crates:
-        folder = ROOT / "crates" / crate / "out/rlib"
-        words += ["--extern", f"{crate}={folder}/{crate}.rlib", "-L", f"dependency={folder}"]
+    folder = lambda crate: ROOT / "crates" / crate / "out/rlib"
+    words += [word for crate in crates for word in ("--extern", f"{crate}={folder(crate)}/{crate}.rlib")]
+    words += [word for crate in below(crates) for word in ("-L", f"dependency={folder(crate)}")]
     return words + ["--antt-project", str(KIT / "rattle/logic/antt-project.json"), "--logic-built", str(KIT / "logic_built"), *more]
 
 

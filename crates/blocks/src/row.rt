@@ -16,6 +16,7 @@ use steps::arm::emit_arm;
 use steps::check::emit_check;
 use steps::lets::emit_lets;
 use steps::{Checked, Opens, Purpose};
+use view::buffers::Plan;
 
 // What a row has done: where it has come to, the frame that it opens, and whether that has a closure.
 #[derive(Clone, Copy)]
@@ -126,7 +127,14 @@ fn splits_at(
         return false;
     }
     let level = view::word(words, rows, r, 0);
-    threshold < weights::block_weight(words, rows, level, r + 1, last)
+    let plan = Plan {
+        bytes: &[],
+        words,
+        rows,
+        tables: &[],
+        index: &[],
+    };
+    threshold < weights::block_weight(&plan, level, r + 1, last)
 }
 
 // What row r does after its `bind_order`, up to the closure that it opens.

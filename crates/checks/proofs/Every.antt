@@ -1,14 +1,12 @@
 -- A test of every row, of every word of a list, of every generated term: by the first and the others. Assumes nothing.
-use Prim.Native.Nat.{ℕ, ◌+◌, ◌-◌, ◌≤◌, ◌<◌}
+use Prim.Native.Nat.{ℕ, zero, suc, ◌+◌, ◌-◌, ◌≤◌, ◌<◌}
 use mathlib.Core.Path.{◌≡◌, refl, ap}
 use mathlib.Core.Bool.{Bool, true, false, ◌&&◌}
 use mathlib.Core.List.{List, [], ◌∷◌, ◌++◌, map}
-use native.Mathlib.Numerals.{add-one}
-use lib.ListN.{length, drop, get_or, drop_of_length-le}
-use lib.Seq.{drop-cons}
+use lib.ListN.{length, get_or}
+use Rattle.std.specs.List.{list_all, range_with_len}
 use Rattle.plan.specs.Plan.{Generated}
 use Rattle.plan.specs.Refusal.{every}
-use Rattle.rows.specs.View.{nth}
 use Rattle.layout.specs.View.{cut, cuts}
 use Rattle.view.specs.Tables.{table_rows, generated_at, generated_from}
 use Rattle.view.proofs.Laws.{cuts_next, cuts_none}
@@ -32,6 +30,17 @@ every_append P (x ∷ xs) ys = rw (every_append P xs ys) (and_assoc (P x) (every
   and_assoc true b c = refl
   and_assoc false b c = refl
 
+pub every_list : {A : Type 0} (P : A → Bool) (xs : List A) → list_all P xs ≡ every P xs
+unfolding every
+every_list P [] = refl
+every_list P (x ∷ xs) = ap (λ (b : Bool). P x && b) (every_list P xs)
+
+-- the same of the rows of a table, by their numbers
+pub every_row : (P : List ℕ → Bool) (words rows : List ℕ) (i n : ℕ) → list_all (λ r. P (cut words rows r)) (range_with_len i n) ≡ every P (cuts words rows i n)
+unfolding every cuts
+every_row P words rows i zero = refl
+every_row P words rows i (suc n) = ap (λ (b : Bool). P (cut words rows i) && b) (every_row P words rows (i + 1) n)
+
 -- the rows of a table, from its first
 pub rows_start : (words rows tables : List ℕ) (t i m : ℕ) → i ≡ get_or tables t 0 → m ≡ get_or tables (t + 1) 0 → cuts words rows i (m - i) ≡ table_rows words rows tables t
 unfolding table_rows
@@ -49,19 +58,6 @@ module _ (P : List ℕ → Bool) (words rows : List ℕ) (i m : ℕ) where
   pub rows_end : m ≤ i → every P (cuts words rows i (m - i)) ≡ true
   unfolding every
   rows_end h = rw (cuts_none words rows i m h) refl
-
-module _ (P : ℕ → Bool) (l : List ℕ) (k : ℕ) where
-  pub list_true : k < length l → P (nth l k) ≡ true → every P (drop k l) ≡ every P (drop (k + 1) l)
-  unfolding every
-  list_true h q = rw (add-one k, drop-cons l k 0 h, q) refl
-
-  pub list_false : k < length l → P (nth l k) ≡ false → every P (drop k l) ≡ false
-  unfolding every
-  list_false h q = rw (drop-cons l k 0 h, q) refl
-
-  pub list_end : length l ≤ k → every P (drop k l) ≡ true
-  unfolding every
-  list_end h = rw (drop_of_length-le l h) refl
 
 module _ (P : Generated → Bool) (words rows tables : List ℕ) (t : ℕ) where
   pub generated_true : t + 3 < length tables → P (generated_at words rows tables t) ≡ true

@@ -3,3 +3,4 @@ pub mod Blocks
 pub mod Counts
 pub mod Lists
 pub mod Marks
+pub mod Tests

@@ -1,12 +1,11 @@
 -- Lists of named fields and of patterns, word by word. Assumes nothing.
-use Prim.Native.Nat.{ℕ, suc, ◌+◌, ◌≤◌, ◌<◌}
-use mathlib.Core.Path.{◌≡◌, refl, sym, ap, ◌∙◌}
-use mathlib.Core.Bool.{Bool, true, false, ◌&&◌}
+use Prim.Native.Nat.{ℕ, ◌-◌, ◌≤◌, ◌<◌}
+use mathlib.Core.Path.{◌≡◌, refl, ap}
+use mathlib.Core.Bool.{Bool, true, ◌&&◌}
 use mathlib.Core.List.{List, [], ◌∷◌}
 use native.Mathlib.Omega.{arith}
-use native.Mathlib.Numerals.{add-one}
-use lib.ListN.{length, drop, length-drop}
-use lib.Seq.{drop-cons}
+use lib.ListN.{length, take, drop}
+use lib.Seq.{take_all}
 use Rattle.plan.specs.Plan.{Field}
 use Rattle.plan.specs.Refusal.{every, bound_below}
 use Rattle.rows.specs.View.{nth, fields_in, pattern_of, patterns_in}
@@ -16,26 +15,16 @@ unfolding every patterns_in
 every_pattern n [] = refl
 every_pattern n (q ∷ l) = ap (λ (b : Bool). bound_below n (pattern_of q) && b) (every_pattern n l)
 
-module _ (P : Field → Bool) (l : List ℕ) (k : ℕ) where
-  two : k + 1 < length l → drop k l ≡ nth l k ∷ nth l (k + 1) ∷ drop (k + 2) l
-  two h =
-      let z : k + 2 ≡ suc (k + 1) = omega arith in
-      let s : suc k ≡ k + 1 = sym (add-one k) in
-      let g : k < length l = omega arith in
-      drop-cons l k 0 g ∙ rw (z, s, drop-cons l (k + 1) 0 h) refl
-
-  pub fields_true : k + 1 < length l → P (record { name = nth l k; ty = nth l (k + 1) }) ≡ true → every P (fields_in (drop k l)) ≡ every P (fields_in (drop (k + 2) l))
+module _ (P : Field → Bool) where
+  -- the first field, and the others
+  pub fields_two : (l : List ℕ) → 2 ≤ length l → every P (fields_in l) ≡ (P (record { name = nth l 0; ty = nth l 1 }) && every P (fields_in (take (length l - 2) (drop 2 l))))
   unfolding every fields_in
-  fields_true h q = rw (two h, q) refl
+  fields_two [] h = absurd (omega arith)
+  fields_two (x ∷ []) h = absurd (omega arith)
+  fields_two (x ∷ y ∷ l) h = let z : length (x ∷ y ∷ l) - 2 ≡ length l = omega arith in rw (z, take_all (length l) l (omega arith)) refl
 
-  pub fields_false : k + 1 < length l → P (record { name = nth l k; ty = nth l (k + 1) }) ≡ false → every P (fields_in (drop k l)) ≡ false
+  pub fields_none : (l : List ℕ) → length l < 2 → every P (fields_in l) ≡ true
   unfolding every fields_in
-  fields_false h q = rw (two h, q) refl
-
-  pub fields_end : length l ≤ k + 1 → every P (fields_in (drop k l)) ≡ true
-  unfolding every fields_in
-  fields_end h = by_list (drop k l) (simp length-drop (omega arith)) where
-    by_list : (m : List ℕ) → length m ≤ 1 → every P (fields_in m) ≡ true
-    by_list [] g = refl
-    by_list (x ∷ []) g = refl
-    by_list (x ∷ y ∷ m) g = absurd (omega arith)
+  fields_none [] h = refl
+  fields_none (x ∷ []) h = refl
+  fields_none (x ∷ y ∷ l) h = absurd (omega arith)

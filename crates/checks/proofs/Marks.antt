@@ -1,52 +1,74 @@
 -- Refusal 7 row by row: sources below their binding, and arguments that are marked as they are met. Assumes nothing.
-use Prim.Native.Nat.{ℕ, ◌+◌, ◌-◌, ◌≤◌, ◌<◌}
-use mathlib.Core.Path.{◌≡◌, refl, sym}
+use Prim.Native.Nat.{ℕ, zero, suc, ◌+◌, ◌-◌, ◌≤◌, ◌<◌}
+use mathlib.Core.Path.{◌≡◌, refl, sym, ap, ◌∙◌}
 use mathlib.Core.Bool.{Bool, true, false, not, ◌&&◌}
 use mathlib.Core.List.{List, [], ◌∷◌, map}
 use mathlib.Core.Option.{Option, some, none}
 use native.Mathlib.Omega.{arith}
 use native.Mathlib.Numerals.{add-one}
 use lib.Dec.{eqb, ltb}
-use lib.ListN.{length, drop, get_or, set, replicate, get_or-eq_default, get_or-replicate}
-use lib.Seq.{get_or-set_same, get_or-set_other, set_out}
+use lib.ListN.{length, drop, get_or, set, replicate, get_or-eq_default, get_or-replicate, length-set, length-replicate}
+use lib.Seq.{get_or-set_same, get_or-set_other}
 use borrow.Author.Tests.{eqb-true, eqb-false, ltb-true, ltb-false}
+use Rattle.std.specs.List.{list_all, range_with_len, enumerate_from}
 use Rattle.plan.specs.Binding.{BindingRow}
 use Rattle.plan.specs.Plan.{Generated}
 use Rattle.plan.specs.Lookup.{argument_index}
 use Rattle.plan.specs.Refusal.{every, bound_below, differ, sources_below, arguments_distinct, sources_lower}
 use Rattle.rows.specs.View.{binding_of}
-use Rattle.layout.specs.View.{cut, cuts}
-use Rattle.view.specs.Tables.{plan_in, generated_at, generated_from}
+use Rattle.layout.specs.View.{cuts}
+use Rattle.view.specs.Buffers.{words_of, rows_of, plan_of}
+use Rattle.view.specs.Told.{binding_told}
+use Rattle.view.specs.declared.binding.Binding.{Binding}
+use Rattle.view.specs.declared.binding.Binding.TheVariants as b
+use Rattle.view.specs.declared.buffers.Plan.{Plan}
 use Rattle.view.proofs.Laws.{cuts_next, cuts_none}
-use Rattle.view.proofs.Plans.{generated_is, generated_next}
-use Rattle.checks.specs.Within.{argument_mark, few_arguments, arguments_few}
+use Rattle.checks.proofs.Every.{rows_start}
+use Rattle.checks.specs.Within.{few_arguments, arguments_few, mark_new, marked, marks_new}
 
-module _ (words rows : List ℕ) (r m i : ℕ) where
-  pub below_true : r < m → every (λ q. ltb q i) (drop 6 (cut words rows r)) ≡ true
-      → sources_below i (map binding_of (cuts words rows r (m - r))) ≡ sources_below (i + 1) (map binding_of (cuts words rows (r + 1) (m - (r + 1))))
-  unfolding sources_below binding_of
-  below_true h q = rw (cuts_next words rows r m h, q) (rw (← add-one i) refl)
-
-  pub below_false : r < m → every (λ q. ltb q i) (drop 6 (cut words rows r)) ≡ false → sources_below i (map binding_of (cuts words rows r (m - r))) ≡ false
-  unfolding sources_below binding_of
-  below_false h q = rw (cuts_next words rows r m h, q) refl
-
-  pub below_end : m ≤ r → sources_below i (map binding_of (cuts words rows r (m - r))) ≡ true
-  unfolding sources_below
-  below_end h = rw (cuts_none words rows r m h) refl
+-- the bindings from row r on, of which the first is the binding i
+pub all_sources : (p : Plan) (i r n : ℕ) → list_all (λ x. every (λ q. ltb q x.0) (drop 6 (words_of p x.1))) (enumerate_from i (range_with_len r n)) ≡ sources_below i (map binding_of (cuts p.words.now p.rows.now r n))
+unfolding sources_below binding_of cuts
+all_sources p i r zero = refl
+all_sources p i r (suc n) = rw (all_sources p (i + 1) (r + 1) n, add-one i) refl
 
 -- MARKS
 
-abbrev pub mark : BindingRow → ℕ
-mark b = argument_mark (argument_index b.binding)
+pub no_argument : (c : Binding) → ((i : ℕ) → c ≡ b.Argument i → ⊥) → argument_index (binding_told c) ≡ none
+no_argument (b.ConstBool v) n = refl
+no_argument (b.ConstInt ty high low) n = refl
+no_argument (b.ConstPrim v) n = refl
+no_argument (b.Argument i) n = absurd (n i refl)
+no_argument (b.Extractor m) n = refl
+no_argument (b.Constructor m) n = refl
+no_argument b.Iterator n = refl
+no_argument (b.MakeVariant ty v) n = refl
+no_argument (b.MakeStruct ty) n = refl
+no_argument b.MakeSome n = refl
+no_argument b.MatchSome n = refl
+no_argument (b.MatchTuple k) n = refl
+no_argument (b.MatchVariant k) n = refl
+no_argument (b.ExtractStruct k) n = refl
 
--- no row's mark is set
-unfoldable pub unmarked : List Bool → List BindingRow → Bool
-unmarked ms bs = every (λ b. not (get_or ms (mark b) false)) bs
+-- the bindings from row r up to row m
+abbrev pub new_from : Plan → ℕ → ℕ → List Bool → Bool
+new_from p m r ms = marks_new ms (map binding_of (cuts p.words.now p.rows.now r (m - r)))
 
--- what is left to find
-unfoldable pub left : List Bool → List BindingRow → Bool
-left ms bs = unmarked ms bs && arguments_distinct bs
+module _ (p : Plan) (m r : ℕ) (ms : List Bool) where
+  pub new_none : m ≤ r → new_from p m r ms ≡ true
+  unfolding marks_new
+  new_none h = rw (cuts_none p.words.now p.rows.now r m h) refl
+
+  pub new_next : r < m → new_from p m r ms ≡ (mark_new ms (argument_index (binding_of (words_of p r)).binding) && new_from p m (r + 1) (marked ms (argument_index (binding_of (words_of p r)).binding)))
+  unfolding marks_new
+  new_next h = rw (cuts_next p.words.now p.rows.now r m h) refl
+
+pub new_start : (p : Plan) (m r : ℕ) (ms : List Bool) (t : ℕ) → r ≡ get_or p.tables.now t 0 → m ≡ get_or p.tables.now (t + 1) 0 → new_from p m r ms ≡ marks_new ms (map binding_of (rows_of p t))
+new_start p m r ms t h g = ap (λ l. marks_new ms (map binding_of l)) (rows_start p.words.now p.rows.now p.tables.now t r m h g)
+
+-- what is left to find: no row's mark is set, and the rows differ
+abbrev unmarked : List Bool → List BindingRow → Bool
+unmarked ms bs = every (λ b. mark_new ms (argument_index b.binding)) bs
 
 and_swap : (a b c d : Bool) → ((a && b) && (c && d)) ≡ ((a && c) && (b && d))
 and_swap true true c d = refl
@@ -58,106 +80,75 @@ and_false : (a : Bool) → (a && false) ≡ false
 and_false true = refl
 and_false false = refl
 
-module _ (ms : List Bool) (size : length ms ≡ 32) where
-  past_marks : get_or ms 32 false ≡ false
-  past_marks = get_or-eq_default ms false (omega arith)
-
-  -- one row more is unmarked after a mark is set if it was and differs
-  one_marked : (i : ℕ) (j : Option ℕ) → i < 32 → not (get_or (set ms i true) (argument_mark j) false) ≡ (not (get_or ms (argument_mark j) false) && differ (some i) j)
-  one_marked i none h = rw (get_or-set_other ms i 32 true false (λ q. omega arith), past_marks)
-  one_marked i (some j) h = by_test (eqb i j) refl where
-    by_test : (b : Bool) → eqb i j ≡ b → not (get_or (set ms i true) j false) ≡ (not (get_or ms j false) && not b)
-    by_test true q = rw (← eqb-true i j q, get_or-set_same ms i true false (omega arith)) (sym (and_false (not (get_or ms i false))))
-    by_test false q = rw (get_or-set_other ms i j true false (λ p. eqb-false i j q (sym p))) (and_true (not (get_or ms j false))) where
-      and_true : (a : Bool) → a ≡ (a && true)
-      and_true true = refl
-      and_true false = refl
-
-  all_marked : (i : ℕ) (bs : List BindingRow) → i < 32 → unmarked (set ms i true) bs ≡ (unmarked ms bs && every (λ c. differ (some i) (argument_index c.binding)) bs)
-  unfolding unmarked every
-  all_marked i [] h = refl
-  all_marked i (c ∷ bs) h =
-      rw (one_marked i (argument_index c.binding) h, all_marked i bs h)
-      (and_swap (not (get_or ms (mark c) false)) (differ (some i) (argument_index c.binding)) (unmarked ms bs) (every (λ c. differ (some i) (argument_index c.binding)) bs))
-
-  none_differs : (bs : List BindingRow) → every (λ c. differ none (argument_index c.binding)) bs ≡ true
-  unfolding every
-  none_differs [] = refl
-  none_differs (c ∷ bs) = none_differs bs
-
-  and_assoc : (a b c : Bool) → (a && (b && c)) ≡ ((a && b) && c)
-  and_assoc true b c = refl
-  and_assoc false b c = refl
-
-  pub left_false : (b : BindingRow) (bs : List BindingRow) → get_or ms (mark b) false ≡ true → left ms (b ∷ bs) ≡ false
-  unfolding left unmarked every
-  left_false b bs q = rw q refl
-
-  pub left_true : (b : BindingRow) (bs : List BindingRow) → bound_below 32 (argument_index b.binding) ≡ true → get_or ms (mark b) false ≡ false
-      → left ms (b ∷ bs) ≡ left (set ms (mark b) true) bs
-  unfolding left unmarked every arguments_distinct
-  left_true b bs h q = rw q (by_index (argument_index b.binding) h) where
-    by_index : (j : Option ℕ) → bound_below 32 j ≡ true
-        → (unmarked ms bs && (every (λ c. differ j (argument_index c.binding)) bs && arguments_distinct bs)) ≡ (unmarked (set ms (argument_mark j) true) bs && arguments_distinct bs)
-    by_index none h = rw (none_differs bs, set_out ms 32 true (omega arith)) refl
-    by_index (some i) h = rw (all_marked i bs (ltb-true i 32 h)) (and_assoc (unmarked ms bs) (every (λ c. differ (some i) (argument_index c.binding)) bs) (arguments_distinct bs))
-
-pub left_none : (ms : List Bool) → left ms [] ≡ true
-unfolding left unmarked every arguments_distinct
-left_none ms = refl
-
-pub left_start : (bs : List BindingRow) → left (replicate 32 false) bs ≡ arguments_distinct bs
-unfolding left unmarked every
-left_start bs = rw (all_new bs) refl where
-  none_set : (i : ℕ) → get_or (replicate 32 false) i false ≡ false
-  none_set i = by_test (ltb i 32) refl where
-    by_test : (b : Bool) → ltb i 32 ≡ b → get_or (replicate 32 false) i false ≡ false
-    by_test true h = get_or-replicate 32 i false false (ltb-true i 32 h)
-    by_test false h = get_or-eq_default (replicate 32 false) false (ltb-false i 32 h)
-
-  all_new : (bs : List BindingRow) → unmarked (replicate 32 false) bs ≡ true
-  all_new [] = refl
-  all_new (b ∷ bs) = rw (none_set (mark b), all_new bs) refl
+and_true : (a : Bool) → a ≡ (a && true)
+and_true true = refl
+and_true false = refl
 
 both : (a b : Bool) → (a && b) ≡ true → (a ≡ true) × (b ≡ true)
 both true b p = (refl, p)
 both false b p = let z : ◌≡◌ {A = ℕ} 0 1 = cc in absurd (omega arith)
 
--- the first row of those left, and the others
-module _ (words rows : List ℕ) (r m : ℕ) where
-  pub few_next : r < m → few_arguments (map binding_of (cuts words rows r (m - r))) ≡ true
-      → (bound_below 32 (argument_index (binding_of (cut words rows r)).binding) ≡ true) × (few_arguments (map binding_of (cuts words rows (r + 1) (m - (r + 1)))) ≡ true)
-  unfolding few_arguments every
-  few_next h q = both _ _ (rw (cuts_next words rows r m h) at q)
+module _ (ms : List Bool) (i : ℕ) (h : i < length ms) where
+  -- one row more is unmarked after a mark is set if it was and differs
+  one_marked : (j : Option ℕ) → mark_new (set ms i true) j ≡ (mark_new ms j && differ (some i) j)
+  one_marked none = refl
+  one_marked (some j) = by_test (eqb i j) refl where
+    by_test : (b : Bool) → eqb i j ≡ b → not (get_or (set ms i true) j false) ≡ (not (get_or ms j false) && not b)
+    by_test true q = rw (← eqb-true i j q, get_or-set_same ms i true false h) (sym (and_false (not (get_or ms i false))))
+    by_test false q = rw (get_or-set_other ms i j true false (λ p. eqb-false i j q (sym p))) (and_true (not (get_or ms j false)))
 
-  pub rows_left_true : (ms : List Bool) → length ms ≡ 32 → r < m → bound_below 32 (argument_index (binding_of (cut words rows r)).binding) ≡ true
-      → get_or ms (mark (binding_of (cut words rows r))) false ≡ false
-      → left ms (map binding_of (cuts words rows r (m - r))) ≡ left (set ms (mark (binding_of (cut words rows r))) true) (map binding_of (cuts words rows (r + 1) (m - (r + 1))))
-  rows_left_true ms size h few q = rw (cuts_next words rows r m h) (left_true ms size (binding_of (cut words rows r)) _ few q)
-
-  pub rows_left_false : (ms : List Bool) → length ms ≡ 32 → r < m → get_or ms (mark (binding_of (cut words rows r))) false ≡ true
-      → left ms (map binding_of (cuts words rows r (m - r))) ≡ false
-  rows_left_false ms size h q = rw (cuts_next words rows r m h) (left_false ms size (binding_of (cut words rows r)) _ q)
-
-  pub rows_left_end : (ms : List Bool) → m ≤ r → left ms (map binding_of (cuts words rows r (m - r))) ≡ true
-  rows_left_end ms h = rw (cuts_none words rows r m h) (left_none ms)
-
-abbrev pub all_few : Generated → Bool
-all_few g = few_arguments g.bindings
-
-abbrev pub is_lower : Generated → Bool
-is_lower g = sources_below 0 g.bindings && arguments_distinct g.bindings
-
-module _ (words rows tables : List ℕ) where
-  pub few_generated : (t : ℕ) → t + 3 < length tables → every all_few (generated_from words rows tables t) ≡ true
-      → (all_few (generated_at words rows tables t) ≡ true) × (every all_few (generated_from words rows tables (t + 3)) ≡ true)
+  all_marked : (bs : List BindingRow) → unmarked (set ms i true) bs ≡ (unmarked ms bs && every (λ c. differ (some i) (argument_index c.binding)) bs)
   unfolding every
-  few_generated t h q = both _ _ (rw (generated_next words rows tables t h) at q)
+  all_marked [] = refl
+  all_marked (c ∷ bs) =
+      rw (one_marked (argument_index c.binding), all_marked bs)
+      (and_swap (mark_new ms (argument_index c.binding)) (differ (some i) (argument_index c.binding)) (unmarked ms bs) (every (λ c. differ (some i) (argument_index c.binding)) bs))
 
-  pub few_plan : (plan : List ℕ) → arguments_few (plan_in plan words rows tables) ≡ every all_few (generated_from words rows tables 7)
-  unfolding arguments_few
-  few_plan plan = rw (generated_is words rows tables plan) refl
+none_differs : (bs : List BindingRow) → every (λ c. differ none (argument_index c.binding)) bs ≡ true
+unfolding every
+none_differs [] = refl
+none_differs (c ∷ bs) = none_differs bs
 
-  pub lower_plan : (plan : List ℕ) → every is_lower (generated_from words rows tables 7) ≡ sources_lower (plan_in plan words rows tables)
-  unfolding sources_lower
-  lower_plan plan = rw (generated_is words rows tables plan) refl
+and_assoc : (a b c : Bool) → (a && (b && c)) ≡ ((a && b) && c)
+and_assoc true b c = refl
+and_assoc false b c = refl
+
+regroup : (a u d e : Bool) → (a && ((u && d) && e)) ≡ ((a && u) && (d && e))
+regroup true u d e = sym (and_assoc u d e)
+regroup false u d e = refl
+
+all_new : (ms : List Bool) (bs : List BindingRow) → length ms ≡ 32 → few_arguments bs ≡ true → marks_new ms bs ≡ (unmarked ms bs && arguments_distinct bs)
+unfolding marks_new few_arguments every arguments_distinct
+all_new ms [] size few = refl
+all_new ms (c ∷ bs) size few = by_index (argument_index c.binding) (both _ _ few).0 (λ l z. all_new l bs z (both _ _ few).1) where
+  by_index : (j : Option ℕ) → bound_below 32 j ≡ true → ((l : List Bool) → length l ≡ 32 → marks_new l bs ≡ (unmarked l bs && arguments_distinct bs))
+      → (mark_new ms j && marks_new (marked ms j) bs) ≡ ((mark_new ms j && unmarked ms bs) && (every (λ c. differ j (argument_index c.binding)) bs && arguments_distinct bs))
+  by_index none h more = rw (none_differs bs, more ms size) refl
+  by_index (some i) h more =
+      let g : i < length ms = omega (arith, ltb-true i 32 h) in
+      let z : length (set ms i true) ≡ 32 = length-set ms i true ∙ size in
+      rw (more (set ms i true) z, all_marked ms i g bs) (regroup (not (get_or ms i false)) (unmarked ms bs) _ _)
+
+pub new_distinct : (bs : List BindingRow) → few_arguments bs ≡ true → marks_new (replicate 32 false) bs ≡ arguments_distinct bs
+unfolding every
+new_distinct bs few = all_new (replicate 32 false) bs (length-replicate 32 false) few ∙ rw (none_marked bs) refl where
+  none_set : (j : Option ℕ) → mark_new (replicate 32 false) j ≡ true
+  none_set none = refl
+  none_set (some i) = by_test (ltb i 32) refl where
+    by_test : (b : Bool) → ltb i 32 ≡ b → not (get_or (replicate 32 false) i false) ≡ true
+    by_test true h = rw (get_or-replicate 32 i false false (ltb-true i 32 h)) refl
+    by_test false h = rw (get_or-eq_default (replicate 32 false) false (ltb-false i 32 h)) refl
+
+  none_marked : (bs : List BindingRow) → unmarked (replicate 32 false) bs ≡ true
+  none_marked [] = refl
+  none_marked (c ∷ bs) = rw (none_set (argument_index c.binding), none_marked bs) refl
+
+-- every generated term's, where each has few arguments
+pub lower_tests : (p : Plan) → arguments_few (plan_of p) ≡ true
+    → every (λ g. sources_below 0 g.bindings && marks_new (replicate 32 false) g.bindings) (plan_of p).generated ≡ sources_lower (plan_of p)
+unfolding arguments_few sources_lower every
+lower_tests p few = each (plan_of p).generated few where
+  each : (gs : List Generated) → every (λ g. few_arguments g.bindings) gs ≡ true
+      → every (λ g. sources_below 0 g.bindings && marks_new (replicate 32 false) g.bindings) gs ≡ every (λ g. sources_below 0 g.bindings && arguments_distinct g.bindings) gs
+  each [] h = refl
+  each (g ∷ gs) h = let k = both (few_arguments g.bindings) (every (λ g. few_arguments g.bindings) gs) h in rw (new_distinct g.bindings k.0, each gs k.1) refl

@@ -1,52 +1,43 @@
 // Refusal 9: a `match` without arms.
-ghost use Rattle.std.specs.Prelude.{◌≡◌, not, ◌||◌, List, map, ℕ, ◌+◌, ◌-◌};
+ghost use Rattle.std.specs.Prelude.{◌≡◌, not, ◌||◌, map, ◌+◌, ◌-◌};
 ghost use Rattle.plan.specs.Row.{level};
 ghost use Rattle.plan.specs.Refusal.{is_match, has_below, matches_armed, matches_have_arms};
 ghost use Rattle.rows.specs.View.{block_of};
-ghost use Rattle.layout.specs.View.{cut, cuts};
-ghost use Rattle.view.specs.Tables.{table_rows, plan_in};
+ghost use Rattle.layout.specs.View.{cuts};
+ghost use Rattle.view.specs.Buffers.{words_of, rows_of, plan_of};
+ghost use Rattle.checks.specs.Tests.{armed};
+
+use super::tables::all_generated;
+use view::block::ControlFlow;
+use view::buffers::Plan;
+
+// Whether row r is a match.
+#[tactic(auto, using(crate::proofs::Blocks::arm_no_match))]
+fn is_match(plan: &Plan<'_>, r: usize) -> bool
+    ensures { result ≡ is_match (block_of (words_of plan.now r)) }
+{
+    plan.is_step(r) && matches!(plan.control_flow_at(r), ControlFlow::Match { .. })
+}
 
 // Whether row r, in a block that ends before row `end`, is no match or has the next row below it.
-fn is_armed(words: &[u32], rows: &[u32], r: usize, end: usize) -> bool
-    ensures { result ≡ (not (is_match (block_of (cut words.now rows.now r)))
-        || has_below (level (block_of (cut words.now rows.now r))) (map block_of (cuts words.now rows.now (r + 1) (end - (r + 1))))) }
+#[tactic(auto, using(crate::proofs::Blocks::match_alone, crate::proofs::Blocks::match_below))]
+fn is_armed(plan: &Plan<'_>, r: usize, end: usize) -> bool
+    ensures { result ≡ armed plan.now end r }
 {
-    if view::word(words, rows, r, 1) != 0 {
-        return true;
-    }
-    if end <= r {
-        return false;
-    }
-    if end == r + 1 {
-        return false;
-    }
-    view::word(words, rows, r, 0) < view::word(words, rows, r + 1, 0)
+    !is_match(plan, r) || (r < end && r + 1 < end && plan.word(r, 0) < plan.word(r + 1, 0))
 }
 
 // Whether each match of the block of table t has arms.
-fn block_armed(words: &[u32], rows: &[u32], tables: &[u32], t: usize) -> bool
-    ensures { result ≡ matches_armed (map block_of (table_rows words.now rows.now tables.now t)) }
+fn block_armed(plan: &Plan<'_>, t: usize) -> bool
+    ensures { result ≡ matches_armed (map block_of (rows_of plan.now t)) }
 {
-    let end = view::next_bound(tables, t);
-    let mut r = view::bound(tables, t);
-    while r < end {
-        if !is_armed(words, rows, r, end) {
-            return false;
-        }
-        r += 1;
-    }
-    true
+    let end = plan.end_row(t);
+    (plan.first_row(t)..end).all(|r| is_armed(plan, r, end))
 }
 
-pub fn matches_have_arms(words: &[u32], rows: &[u32], tables: &[u32]) -> bool
-    ensures { (plan : List ℕ) → result ≡ matches_have_arms (plan_in plan words.now rows.now tables.now) }
+#[tactic(auto, unfolding(plan::specs::Refusal::matches_have_arms))]
+pub fn matches_have_arms(plan: &Plan<'_>) -> bool
+    ensures { result ≡ matches_have_arms (plan_of plan.now) }
 {
-    let mut t = 7;
-    while t + 3 < tables.len() {
-        if !block_armed(words, rows, tables, t + 2) {
-            return false;
-        }
-        t += 3;
-    }
-    true
+    all_generated(plan, |g| block_armed(plan, g.block))
 }

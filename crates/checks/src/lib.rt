@@ -7,3 +7,4 @@ pub mod loops;
 pub mod lower;
 pub mod most;
 pub mod returns;
+pub mod tables;

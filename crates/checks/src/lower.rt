@@ -1,105 +1,62 @@
 // Refusal 7: a source not lower than its binding; two `arg` of one index.
-ghost use Rattle.std.specs.Prelude.{◌≡◌, true, false, not, ◌&&◌, List, map, ℕ, ◌+◌, get_or, set};
+ghost use Rattle.std.specs.Prelude.{◌≡◌, true, false, ◌&&◌, map, replicate};
 ghost use Rattle.plan.specs.Lookup.{argument_index};
-ghost use Rattle.plan.specs.Refusal.{sources_below, arguments_distinct, sources_lower};
+ghost use Rattle.plan.specs.Refusal.{sources_below, sources_lower};
 ghost use Rattle.rows.specs.View.{binding_of};
-ghost use Rattle.view.specs.Tables.{table_rows, plan_in};
+ghost use Rattle.view.specs.Buffers.{rows_of, plan_of};
 ghost use Rattle.view.specs.Told.{binding_told};
-ghost use Rattle.checks.specs.Within.{argument_mark, few_arguments, arguments_few};
+ghost use Rattle.checks.specs.Within.{mark_new, marked, marks_new, arguments_few};
 
+use super::list::list_below;
+use super::tables::all_generated;
 use view::binding::Binding;
+use view::buffers::Plan;
 
 // Whether each source of the bindings of table t is a lower binding.
-fn all_below(words: &[u32], rows: &[u32], tables: &[u32], t: usize) -> bool
-    ensures { result ≡ sources_below 0 (map binding_of (table_rows words.now rows.now tables.now t)) }
+fn all_below(plan: &Plan<'_>, t: usize) -> bool
+    ensures { result ≡ sources_below 0 (map binding_of (rows_of plan.now t)) }
 {
-    let end = view::next_bound(tables, t);
-    let mut r = view::bound(tables, t);
-    let mut i = 0;
-    while r < end {
-        if !super::list::list_below(words, rows, r, 6, i) {
-            return false;
-        }
-        r += 1;
-        i += 1;
-    }
-    true
+    (plan.first_row(t)..plan.end_row(t))
+        .enumerate()
+        .all(|(i, r)| list_below(plan, r, 6, i))
 }
 
-// The mark of the argument that a binding stands for, 32 for none.
-fn mark_of(b: Binding) -> usize
-    ensures { result ≡ argument_mark (argument_index (binding_told b)) }
+// Whether a binding stands for no argument or for one that isn't marked yet; it is from then on, if it has a mark.
+#[tactic(auto, using(crate::proofs::Marks::no_argument))]
+fn is_new(marks: &mut [bool], b: Binding) -> bool
+    ensures fresh { result ≡ mark_new marks.old (argument_index (binding_told b)) }
+    ensures marked { marks.new ≡ marked marks.old (argument_index (binding_told b)) }
 {
     match b {
-        Binding::ConstBool { .. } => 32,
-        Binding::ConstInt { .. } => 32,
-        Binding::ConstPrim { .. } => 32,
-        Binding::Argument { index } => index,
-        Binding::Extractor { .. } => 32,
-        Binding::Constructor { .. } => 32,
-        Binding::Iterator => 32,
-        Binding::MakeVariant { .. } => 32,
-        Binding::MakeStruct { .. } => 32,
-        Binding::MakeSome => 32,
-        Binding::MatchSome => 32,
-        Binding::MatchTuple { .. } => 32,
-        Binding::MatchVariant { .. } => 32,
-        Binding::ExtractStruct { .. } => 32,
+        Binding::Argument { index } => index >= marks.len()
+            || !std::mem::replace(&mut marks[index], true),
+        _ => true,
     }
 }
 
-// Sets a mark, if there is such a mark, and says whether it was not set.
-fn is_new(marks: &mut [bool], i: usize) -> bool
-    ensures { (result ≡ not (get_or marks.old i false)) × (marks.new ≡ set marks.old i true) }
+// Whether no two bindings of table t are one argument below 32.
+#[tactic(auto, using(crate::proofs::Marks::new_none, crate::proofs::Marks::new_next))]
+fn all_distinct(plan: &Plan<'_>, t: usize) -> bool
+    ensures { result ≡ marks_new (replicate 32 false) (map binding_of (rows_of plan.now t)) }
 {
-    if i < marks.len() {
-        let old = marks[i];
-        marks[i] = true;
-        return !old;
-    }
-    true
-}
-
-// Whether no two bindings of table t are one argument, where each argument's number is below 32.
-fn all_distinct(words: &[u32], rows: &[u32], tables: &[u32], t: usize) -> bool
-    ensures { few_arguments (map binding_of (table_rows words.now rows.now tables.now t)) ≡ true
-        → result ≡ arguments_distinct (map binding_of (table_rows words.now rows.now tables.now t)) }
-{
-    let end = view::next_bound(tables, t);
-    let mut r = view::bound(tables, t);
     let mut marks = [false; 32];
-    while r < end {
-        let b = view::binding::binding_at(words, rows, r);
-        if !is_new(&mut marks, mark_of(b)) {
+    for r in plan.first_row(t)..plan.end_row(t) {
+        if !is_new(&mut marks, plan.binding_at(r)) {
             return false;
         }
-        r += 1;
     }
     true
 }
 
 // Refusal 7 of the bindings of table t.
-fn bindings_lower(words: &[u32], rows: &[u32], tables: &[u32], t: usize) -> bool
-    ensures { few_arguments (map binding_of (table_rows words.now rows.now tables.now t)) ≡ true
-        → result ≡ (sources_below 0 (map binding_of (table_rows words.now rows.now tables.now t))
-        && arguments_distinct (map binding_of (table_rows words.now rows.now tables.now t))) }
+fn bindings_lower(plan: &Plan<'_>, t: usize) -> bool
+    ensures { result ≡ (sources_below 0 (map binding_of (rows_of plan.now t)) && marks_new (replicate 32 false) (map binding_of (rows_of plan.now t))) }
 {
-    if !all_below(words, rows, tables, t) {
-        return false;
-    }
-    all_distinct(words, rows, tables, t)
+    all_below(plan, t) && all_distinct(plan, t)
 }
 
-pub fn sources_lower(words: &[u32], rows: &[u32], tables: &[u32]) -> bool
-    ensures { (plan : List ℕ) → arguments_few (plan_in plan words.now rows.now tables.now) ≡ true
-        → result ≡ sources_lower (plan_in plan words.now rows.now tables.now) }
+pub fn sources_lower(plan: &Plan<'_>) -> bool
+    ensures { arguments_few (plan_of plan.now) ≡ true → result ≡ sources_lower (plan_of plan.now) }
 {
-    let mut t = 7;
-    while t + 3 < tables.len() {
-        if !bindings_lower(words, rows, tables, t + 1) {
-            return false;
-        }
-        t += 3;
-    }
-    true
+    all_generated(plan, |g| bindings_lower(plan, g.bindings))
 }

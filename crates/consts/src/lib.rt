@@ -13,6 +13,8 @@ ghost use Rattle.sema.specs.Holds.{Holds};
 
 use emits::Written;
 use emits::odd::count;
+use text::number::Wide;
+use text::sink::Sink;
 
 // codegen.rs 1175.
 pub fn emit_bool(out: &mut [u8], end: usize, at: usize, odd: usize, val: bool) -> Written
@@ -42,8 +44,11 @@ pub fn emit_int(
     ensures { (env : Environment) (plan index : List ℕ) (d : ℕ) (q : Marks) → Holds env plan words.now rows.now tables.now index → Emits end env d (say (emit_int env ty (whole high low) ∷ [])) out.old at odd q out.new result.at result.odd q }
 {
     let int = sema::types::int_type(words, rows, tables, ty);
-    let at = literal::literal::emit_int(out, at, end, int, high, low);
-    let is_odd = literal::literal::is_odd(int, high, low);
+    let val = Wide { high, low };
+    let mut w = Sink { out, at, end, odd };
+    literal::literal::emit_int(&mut w, int, val);
+    let at = w.at;
+    let is_odd = literal::literal::is_odd(int, val);
     let odd = count(odd, end, is_odd);
     Written { at: at, odd: odd }
 }

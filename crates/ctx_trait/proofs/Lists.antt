@@ -1,5 +1,5 @@
 -- The definition's lists from the middle on: their next part, and their end. Assumes nothing.
-use Rattle.std.specs.Prelude.{◌≡◌, ℕ, zero, suc, ◌+◌, ◌<◌, ◌≤◌, true, false, List, [], ◌∷◌, ◌++◌, length, get_or, drop}
+use Rattle.std.specs.Prelude.{◌≡◌, ℕ, suc, ◌+◌, ◌<◌, ◌≤◌, true, false, List, [], ◌∷◌, ◌++◌, length, get_or, drop}
 use mathlib.Core.Path.{refl, ap, ◌∙◌}
 use mathlib.Core.Path as Path
 use mathlib.Core.List.{append-nil, append_assoc}
@@ -9,13 +9,13 @@ use lib.ListN.{drop_of_length-le}
 use lib.Seq.{drop-cons}
 use Rattle.plan.specs.Plan.{absent, Environment}
 use Rattle.plan.specs.Lookup.{term_at}
-use Rattle.view.specs.Tables.{table_rows}
+use Rattle.view.specs.Buffers.{rows_of, env_of}
+use Rattle.view.specs.declared.buffers.Plan.{Plan}
 use Rattle.view.proofs.Plans.{terms_count}
 use Rattle.codegen.specs.Piece.{Piece, fix, num}
 use Rattle.codegen.specs.ReturnKind.{by_return_kind}
 use Rattle.codegen.specs.Sema.{ExternalSig}
 use Rattle.codegen.specs.Items.{join, type_name, type_names, ret_tuple, sig_params, term_sigs}
-use Rattle.sema.specs.Holds.{Holds}
 use Rattle.ctx_trait.specs.Parts.{separator, joined, term_sig}
 
 -- JOINED LISTS
@@ -33,11 +33,6 @@ join_is (p ∷ ps) = join_from 0 p ps
 pub joined_last : (i : ℕ) (ps : List Piece) → joined i (ps ∷ []) ≡ separator i ++ ps
 unfolding joined
 joined_last i ps = ap (λ (l : List Piece). separator i ++ l) (append-nil ps)
-
-pub separator_more : (i : ℕ) → (i ≡ 0 → ⊥) → separator i ≡ fix ", " refl ∷ []
-unfolding separator
-separator_more zero h = absurd (h refl)
-separator_more (suc i) h = refl
 
 -- SIGNATURES
 
@@ -94,5 +89,5 @@ module _ (env : Environment) (i : ℕ) where
   unfolding term_sigs
   terms_end h = rw (drop_of_length-le env.terms h) refl
 
-pub term_count : {env : Environment} {plan words rows tables index : List ℕ} → Holds env plan words rows tables index → length env.terms ≡ length (table_rows words rows tables 6)
-term_count {plan = plan} {words} {rows} {tables} h = ap (λ (e : Environment). length e.terms) h.is ∙ terms_count words rows tables plan
+pub term_count : (p : Plan) → length (env_of p).terms ≡ length (rows_of p 6)
+term_count p = terms_count p.words.now p.rows.now p.tables.now p.bytes.now

@@ -1,350 +1,180 @@
 // `generate_ctx_trait` of codegen.rs 274, with `generate_trait_sig` and `type_name`.
-// What a contract says, it says of every environment that the buffers hold (`Holds` of the crate sema).
-#![tactic(auto)]
+// What a contract says, it says of the environment that the plan's buffers hold (`env_of` of the crate view).
+#![tactic(auto, using(crate::specs::Shown::shown))]
 
-ghost use Rattle.std.specs.Prelude.{◌≡◌, ℕ, true, false, List, [], ◌∷◌, ◌++◌, length, if◌then◌else◌, slice_index};
-ghost use Rattle.std.specs.Prelude.{refl};
+ghost use Rattle.std.specs.Prelude.{ℕ};
 ghost use Rattle.plan.specs.Plan.{Environment};
-ghost use Rattle.emits.specs.Emits.{Shows};
-ghost use Rattle.sema.specs.Holds.{Holds};
 ghost use Rattle.plan.specs.Lookup.{term_at};
-ghost use Rattle.codegen.specs.Piece.{fix, num, break};
-ghost use Rattle.codegen.specs.ReturnKind.{by_return_kind};
-ghost use Rattle.codegen.specs.Sema.{is_external};
-ghost use Rattle.codegen.specs.Items.{join, type_name, type_names, ret_tuple, sig_params, generate_trait_sig, term_sigs, iterator_text, generate_ctx_trait};
+ghost use Rattle.view.specs.Buffers.{env_of};
 ghost use Rattle.view.specs.Told.{function_told};
+ghost use Rattle.codegen.specs.Items.{join, type_name, type_names, ret_tuple, sig_params, generate_trait_sig, term_sigs, iterator_text, generate_ctx_trait};
+ghost use Rattle.emits.specs.Sinks.{Shows};
 ghost use Rattle.sema.specs.Signature.{sig_told};
-ghost use Rattle.ctx_trait.specs.Parts.{separator, joined, term_sig};
+ghost use Rattle.ctx_trait.specs.Parts.{separator, param, last_param, returns_type, ret_ty, external_sig, term_sig};
 
-use sema::signature::{ExternalSig, ReturnKind, put_func_name};
-use sema::types::{is_ref, put_type};
-use text::number::put_decimal;
-use text::sink::put_bytes;
+use sema::signature::{ExternalSig, ReturnKind, TermId};
+use sema::types::TypeId;
+use text::sink::Sink;
+use view::buffers::Plan;
 use view::environment::FunctionKind;
 
+// The table of the terms.
+const TERMS: usize = 6;
+
 // `type_name` of codegen.rs 506.
-pub fn type_name(
-    out: &mut [u8],
-    at: usize,
-    end: usize,
-    plan: &[u8],
-    words: &[u32],
-    rows: &[u32],
-    tables: &[u32],
-    by_ref: bool,
-    n: usize,
-) -> usize
-    ensures { (env : Environment) (index : List ℕ) (d : ℕ) → Holds env plan.now words.now rows.now tables.now index → Shows end env d (type_name env by_ref n) out.old at out.new result }
+#[tactic(auto, using(crate::specs::Shown::shown), unfolding(codegen::specs::Items::type_name))]
+pub fn type_name(w: &mut Sink<'_>, plan: &Plan<'_>, by_ref: bool, ty: TypeId)
+    ensures { let env = env_of plan.now in (d : ℕ) → Shows env d (type_name env by_ref ty.0) w.old w.new }
 {
-    if !by_ref {
-        return put_type(out, at, end, plan, words, rows, tables, n);
+    if by_ref && ty.is_ref(plan) {
+        w.put_bytes(b"&");
     }
-    if !is_ref(words, rows, tables, n) {
-        return put_type(out, at, end, plan, words, rows, tables, n);
-    }
-    let at = put_bytes(out, at, end, b"&");
-    put_type(out, at, end, plan, words, rows, tables, n)
+    ty.put_name(w, plan);
 }
 
 // What stands before the part i of a list.
-#[tactic(auto, using(crate::proofs::Shown::shows_first_part, crate::proofs::Shown::shows_later_part))]
-pub fn put_separator(out: &mut [u8], at: usize, end: usize, i: usize) -> usize
-    ensures { (env : Environment) → Shows end env 0 (separator i) out.old at out.new result }
+#[tactic(auto, using(crate::specs::Shown::shown), unfolding(crate::specs::Parts::separator))]
+pub fn put_separator(w: &mut Sink<'_>, i: usize)
+    ensures { (env : Environment) → Shows env 0 (separator i) w.old w.new }
 {
-    if i == 0 {
-        return at;
+    if i != 0 {
+        w.put_bytes(b", ");
     }
-    put_bytes(out, at, end, b", ")
 }
 
-// The result i of a signature.
-fn ret_type(
-    out: &mut [u8],
-    at: usize,
-    end: usize,
-    plan: &[u8],
-    words: &[u32],
-    rows: &[u32],
-    tables: &[u32],
-    sig: ExternalSig,
-    i: usize,
-) -> usize
-    ensures { (env : Environment) (index : List ℕ) → Holds env plan.now words.now rows.now tables.now index → Shows end env 0 (separator i ++ type_name env false (slice_index (sig_told env sig).ret_tys i)) out.old at out.new result }
+// The results of a signature.
+fn ret_types(w: &mut Sink<'_>, plan: &Plan<'_>, sig: ExternalSig)
+    ensures { let env = env_of plan.now in Shows env 0 (join (type_names env (sig_told env sig).ret_tys)) w.old w.new }
 {
-    let n = sema::signature::ret_ty(words, rows, tables, sig, i);
-    let at = put_separator(out, at, end, i);
-    type_name(out, at, end, plan, words, rows, tables, false, n)
-}
-
-// The results of a signature, of which there are n.
-fn ret_types(
-    out: &mut [u8],
-    at: usize,
-    end: usize,
-    plan: &[u8],
-    words: &[u32],
-    rows: &[u32],
-    tables: &[u32],
-    sig: ExternalSig,
-    n: usize,
-) -> usize
-    ensures { (env : Environment) (index : List ℕ) → Holds env plan.now words.now rows.now tables.now index → n ≡ length (sig_told env sig).ret_tys → Shows end env 0 (join (type_names env (sig_told env sig).ret_tys)) out.old at out.new result }
-{
-    let mut at = at;
-    let mut i = 0;
-    while i < n {
-        at = ret_type(out, at, end, plan, words, rows, tables, sig, i);
-        i += 1;
+    for i in 0..sig.ret_count(plan) {
+        put_separator(w, i);
+        type_name(w, plan, false, sig.ret_ty(plan, i));
     }
-    at
 }
 
 // They stand in parentheses unless there is one.
-fn ret_tuple(
-    out: &mut [u8],
-    at: usize,
-    end: usize,
-    plan: &[u8],
-    words: &[u32],
-    rows: &[u32],
-    tables: &[u32],
-    sig: ExternalSig,
-) -> usize
-    ensures { (env : Environment) (index : List ℕ) → Holds env plan.now words.now rows.now tables.now index → Shows end env 0 (ret_tuple env (sig_told env sig).ret_tys) out.old at out.new result }
+fn ret_tuple(w: &mut Sink<'_>, plan: &Plan<'_>, sig: ExternalSig)
+    ensures { let env = env_of plan.now in Shows env 0 (ret_tuple env (sig_told env sig).ret_tys) w.old w.new }
 {
-    let n = sema::signature::ret_count(words, rows, tables, sig);
-    if n == 0 {
-        return put_bytes(out, at, end, b"()");
+    match sig.ret_count(plan) {
+        0 => w.put_bytes(b"()"),
+        1 => type_name(w, plan, false, sig.ret_ty(plan, 0)),
+        _ => {
+            w.put_bytes(b"(");
+            ret_types(w, plan, sig);
+            w.put_bytes(b")");
+        }
     }
-    if n == 1 {
-        let t = sema::signature::ret_ty(words, rows, tables, sig, 0);
-        return type_name(out, at, end, plan, words, rows, tables, false, t);
-    }
-    let at = put_bytes(out, at, end, b"(");
-    let at = ret_types(out, at, end, plan, words, rows, tables, sig, n);
-    put_bytes(out, at, end, b")")
 }
 
 // The parameter i of a signature.
-fn param(
-    out: &mut [u8],
-    at: usize,
-    end: usize,
-    plan: &[u8],
-    words: &[u32],
-    rows: &[u32],
-    tables: &[u32],
-    sig: ExternalSig,
-    i: usize,
-) -> usize
-    ensures { (env : Environment) (index : List ℕ) → Holds env plan.now words.now rows.now tables.now index → Shows end env 0 (separator i ++ (fix "arg" refl ∷ num i ∷ fix ": " refl ∷ type_name env true (slice_index (sig_told env sig).param_tys i))) out.old at out.new result }
+fn param(w: &mut Sink<'_>, plan: &Plan<'_>, sig: ExternalSig, i: usize)
+    ensures { let env = env_of plan.now in Shows env 0 (param env (sig_told env sig) i) w.old w.new }
 {
-    let n = sema::signature::param_ty(words, rows, tables, sig, i);
-    let at = put_separator(out, at, end, i);
-    let at = put_bytes(out, at, end, b"arg");
-    let at = put_decimal(out, at, end, i as u64);
-    let at = put_bytes(out, at, end, b": ");
-    type_name(out, at, end, plan, words, rows, tables, true, n)
+    put_separator(w, i);
+    w.put_bytes(b"arg");
+    w.put_decimal(i as u64);
+    w.put_bytes(b": ");
+    type_name(w, plan, true, sig.param_ty(plan, i));
 }
 
-// The buffer of an iterator, after i parameters.
-fn last_param(
-    out: &mut [u8],
-    at: usize,
-    end: usize,
-    plan: &[u8],
-    words: &[u32],
-    rows: &[u32],
-    tables: &[u32],
-    sig: ExternalSig,
-    i: usize,
-) -> usize
-    ensures { (env : Environment) (index : List ℕ) → Holds env plan.now words.now rows.now tables.now index → Shows end env 0 (joined i (by_return_kind (sig_told env sig).ret_kind ((fix "returns: &mut Self::" refl ∷ (sig_told env sig).func_name ++ (fix "_returns" refl ∷ [])) ∷ []) [] [])) out.old at out.new result }
+// The buffer of an iterator, after n parameters.
+#[tactic(auto, using(crate::specs::Shown::shown), unfolding(codegen::specs::ReturnKind::by_return_kind, crate::specs::Parts::joined))]
+fn last_param(w: &mut Sink<'_>, plan: &Plan<'_>, sig: ExternalSig, n: usize)
+    ensures { let env = env_of plan.now in Shows env 0 (last_param (sig_told env sig) n) w.old w.new }
 {
-    let k = sig.ret_kind;
-    match k {
-        ReturnKind::Iterator => {
-            let at = put_separator(out, at, end, i);
-            let at = put_bytes(out, at, end, b"returns: &mut Self::");
-            let at = put_func_name(out, at, end, plan, words, rows, tables, sig);
-            put_bytes(out, at, end, b"_returns")
-        }
-        ReturnKind::Option => at,
-        ReturnKind::Plain => at,
+    if sig.ret_kind == ReturnKind::Iterator {
+        put_separator(w, n);
+        w.put_bytes(b"returns: &mut Self::");
+        sig.put_func_name(w, plan);
+        w.put_bytes(b"_returns");
     }
 }
 
-fn sig_params(
-    out: &mut [u8],
-    at: usize,
-    end: usize,
-    plan: &[u8],
-    words: &[u32],
-    rows: &[u32],
-    tables: &[u32],
-    sig: ExternalSig,
-) -> usize
-    ensures { (env : Environment) (index : List ℕ) → Holds env plan.now words.now rows.now tables.now index → Shows end env 0 (join (sig_params env (sig_told env sig) 0 (sig_told env sig).param_tys)) out.old at out.new result }
+fn sig_params(w: &mut Sink<'_>, plan: &Plan<'_>, sig: ExternalSig)
+    ensures { let env = env_of plan.now in Shows env 0 (join (sig_params env (sig_told env sig) 0 (sig_told env sig).param_tys)) w.old w.new }
 {
-    let n = sema::signature::param_count(words, rows, tables, sig);
-    let mut at = at;
-    let mut i = 0;
-    while i < n {
-        at = param(out, at, end, plan, words, rows, tables, sig, i);
-        i += 1;
+    let n = sig.param_count(plan);
+    for i in 0..n {
+        param(w, plan, sig, i);
     }
-    last_param(out, at, end, plan, words, rows, tables, sig, i)
+    last_param(w, plan, sig, n);
 }
 
 // The line for the type of an iterator's buffer.
-fn returns_type(
-    out: &mut [u8],
-    at: usize,
-    end: usize,
-    plan: &[u8],
-    words: &[u32],
-    rows: &[u32],
-    tables: &[u32],
-    sig: ExternalSig,
-) -> usize
-    ensures { (env : Environment) (index : List ℕ) → Holds env plan.now words.now rows.now tables.now index → Shows end env 0 (by_return_kind (sig_told env sig).ret_kind (fix "    type " refl ∷ (sig_told env sig).func_name ++ (fix "_returns: Default + IntoContextIter<Context = Self, Output = " refl ∷ ret_tuple env (sig_told env sig).ret_tys ++ (fix ">;" refl ∷ break 0 ∷ []))) [] []) out.old at out.new result }
+#[tactic(auto, using(crate::specs::Shown::shown), unfolding(codegen::specs::ReturnKind::by_return_kind))]
+fn returns_type(w: &mut Sink<'_>, plan: &Plan<'_>, sig: ExternalSig)
+    ensures { let env = env_of plan.now in Shows env 0 (returns_type env (sig_told env sig)) w.old w.new }
 {
-    let k = sig.ret_kind;
-    match k {
-        ReturnKind::Iterator => {
-            let at = put_bytes(out, at, end, b"    type ");
-            let at = put_func_name(out, at, end, plan, words, rows, tables, sig);
-            let at = put_bytes(
-                out,
-                at,
-                end,
-                b"_returns: Default + IntoContextIter<Context = Self, Output = ",
-            );
-            let at = ret_tuple(out, at, end, plan, words, rows, tables, sig);
-            put_bytes(out, at, end, b">;\n")
-        }
-        ReturnKind::Option => at,
-        ReturnKind::Plain => at,
+    if sig.ret_kind == ReturnKind::Iterator {
+        w.put_bytes(b"    type ");
+        sig.put_func_name(w, plan);
+        w.put_bytes(b"_returns: Default + IntoContextIter<Context = Self, Output = ");
+        ret_tuple(w, plan, sig);
+        w.put_bytes(b">;\n");
     }
 }
 
-fn ret_ty(
-    out: &mut [u8],
-    at: usize,
-    end: usize,
-    plan: &[u8],
-    words: &[u32],
-    rows: &[u32],
-    tables: &[u32],
-    sig: ExternalSig,
-) -> usize
-    ensures { (env : Environment) (index : List ℕ) → Holds env plan.now words.now rows.now tables.now index → Shows end env 0 (by_return_kind (sig_told env sig).ret_kind (fix "()" refl ∷ []) (fix "Option<" refl ∷ ret_tuple env (sig_told env sig).ret_tys ++ (fix ">" refl ∷ [])) (ret_tuple env (sig_told env sig).ret_tys)) out.old at out.new result }
+#[tactic(auto, using(crate::specs::Shown::shown), unfolding(codegen::specs::ReturnKind::by_return_kind))]
+fn ret_ty(w: &mut Sink<'_>, plan: &Plan<'_>, sig: ExternalSig)
+    ensures { let env = env_of plan.now in Shows env 0 (ret_ty env (sig_told env sig)) w.old w.new }
 {
-    let k = sig.ret_kind;
-    match k {
-        ReturnKind::Iterator => put_bytes(out, at, end, b"()"),
+    match sig.ret_kind {
+        ReturnKind::Iterator => w.put_bytes(b"()"),
         ReturnKind::Option => {
-            let at = put_bytes(out, at, end, b"Option<");
-            let at = ret_tuple(out, at, end, plan, words, rows, tables, sig);
-            put_bytes(out, at, end, b">")
+            w.put_bytes(b"Option<");
+            ret_tuple(w, plan, sig);
+            w.put_bytes(b">");
         }
-        ReturnKind::Plain => ret_tuple(out, at, end, plan, words, rows, tables, sig),
+        ReturnKind::Plain => ret_tuple(w, plan, sig),
     }
 }
 
 // `generate_trait_sig` of codegen.rs 222.
-fn generate_trait_sig(
-    out: &mut [u8],
-    at: usize,
-    end: usize,
-    plan: &[u8],
-    words: &[u32],
-    rows: &[u32],
-    tables: &[u32],
-    sig: ExternalSig,
-) -> usize
-    ensures { (env : Environment) (index : List ℕ) → Holds env plan.now words.now rows.now tables.now index → Shows end env 0 (generate_trait_sig env (sig_told env sig)) out.old at out.new result }
+fn generate_trait_sig(w: &mut Sink<'_>, plan: &Plan<'_>, sig: ExternalSig)
+    ensures { let env = env_of plan.now in Shows env 0 (generate_trait_sig env (sig_told env sig)) w.old w.new }
 {
-    let at = returns_type(out, at, end, plan, words, rows, tables, sig);
-    let at = put_bytes(out, at, end, b"    fn ");
-    let at = put_func_name(out, at, end, plan, words, rows, tables, sig);
-    let at = put_bytes(out, at, end, b"(&mut self, ");
-    let at = sig_params(out, at, end, plan, words, rows, tables, sig);
-    let at = put_bytes(out, at, end, b") -> ");
-    let at = ret_ty(out, at, end, plan, words, rows, tables, sig);
-    put_bytes(out, at, end, b";\n")
+    returns_type(w, plan, sig);
+    w.put_bytes(b"    fn ");
+    sig.put_func_name(w, plan);
+    w.put_bytes(b"(&mut self, ");
+    sig_params(w, plan, sig);
+    w.put_bytes(b") -> ");
+    ret_ty(w, plan, sig);
+    w.put_bytes(b";\n");
 }
 
-fn external_sig(
-    out: &mut [u8],
-    at: usize,
-    end: usize,
-    plan: &[u8],
-    words: &[u32],
-    rows: &[u32],
-    tables: &[u32],
-    sig: ExternalSig,
-) -> usize
-    ensures { (env : Environment) (index : List ℕ) → Holds env plan.now words.now rows.now tables.now index → Shows end env 0 (if is_external (function_told sig.func) then generate_trait_sig env (sig_told env sig) else []) out.old at out.new result }
+#[tactic(auto, using(crate::specs::Shown::shown), unfolding(codegen::specs::Sema::is_external))]
+fn external_sig(w: &mut Sink<'_>, plan: &Plan<'_>, sig: ExternalSig)
+    ensures { let env = env_of plan.now in Shows env 0 (external_sig env (function_told sig.func) (sig_told env sig)) w.old w.new }
 {
-    let k = sig.func;
-    match k {
-        FunctionKind::Absent => at,
-        FunctionKind::Internal => at,
-        FunctionKind::External { .. } => generate_trait_sig(
-            out, at, end, plan, words, rows, tables, sig,
-        ),
+    if matches!(sig.func, FunctionKind::External { .. }) {
+        generate_trait_sig(w, plan, sig);
     }
 }
 
 // A term has its external extractor before its constructor.
-fn term_sig(
-    out: &mut [u8],
-    at: usize,
-    end: usize,
-    plan: &[u8],
-    words: &[u32],
-    rows: &[u32],
-    tables: &[u32],
-    term: usize,
-) -> usize
-    ensures { (env : Environment) (index : List ℕ) → Holds env plan.now words.now rows.now tables.now index → Shows end env 0 (term_sig env (term_at env term)) out.old at out.new result }
+#[tactic(auto, using(crate::specs::Shown::shown), unfolding(crate::specs::Parts::term_sig))]
+fn term_sig(w: &mut Sink<'_>, plan: &Plan<'_>, term: TermId)
+    ensures { let env = env_of plan.now in Shows env 0 (term_sig env (term_at env term.0)) w.old w.new }
 {
-    let x = sema::signature::extractor_sig(words, rows, tables, term);
-    let c = sema::signature::constructor_sig(words, rows, tables, term);
-    let at = external_sig(out, at, end, plan, words, rows, tables, x);
-    external_sig(out, at, end, plan, words, rows, tables, c)
+    external_sig(w, plan, term.extractor_sig(plan));
+    external_sig(w, plan, term.constructor_sig(plan));
 }
 
-fn term_sigs(
-    out: &mut [u8],
-    at: usize,
-    end: usize,
-    plan: &[u8],
-    words: &[u32],
-    rows: &[u32],
-    tables: &[u32],
-) -> usize
-    ensures { (env : Environment) (index : List ℕ) → Holds env plan.now words.now rows.now tables.now index → Shows end env 0 (term_sigs env env.terms) out.old at out.new result }
+fn term_sigs(w: &mut Sink<'_>, plan: &Plan<'_>)
+    ensures { let env = env_of plan.now in Shows env 0 (term_sigs env env.terms) w.old w.new }
 {
-    let n = view::row_count(tables, 6);
-    let mut at = at;
-    let mut i = 0;
-    while i < n {
-        at = term_sig(out, at, end, plan, words, rows, tables, i);
-        i += 1;
+    for i in 0..plan.row_count(TERMS) {
+        term_sig(w, plan, TermId(i));
     }
-    at
 }
 
 // The iterator text; its last line has spaces only.
-fn iterator_text(out: &mut [u8], at: usize, end: usize) -> usize
-    ensures { (env : Environment) → Shows end env 0 (iterator_text) out.old at out.new result }
+fn iterator_text(w: &mut Sink<'_>)
+    ensures { (env : Environment) → Shows env 0 (iterator_text) w.old w.new }
 {
-    let at = put_bytes(
-        out,
-        at,
-        end,
+    w.put_bytes(
         b"
 pub trait ContextIter {
     type Context;
@@ -431,24 +261,13 @@ impl<L: Length, C> Length for ContextIterWrapper<L, C> {
 }
 ",
     );
-    put_bytes(out, at, end, b"           \n")
+    w.put_bytes(b"           \n");
 }
 
-pub fn generate_ctx_trait(
-    out: &mut [u8],
-    at: usize,
-    end: usize,
-    plan: &[u8],
-    words: &[u32],
-    rows: &[u32],
-    tables: &[u32],
-) -> usize
-    ensures { (env : Environment) (index : List ℕ) → Holds env plan.now words.now rows.now tables.now index → Shows end env 0 (generate_ctx_trait env) out.old at out.new result }
+pub fn generate_ctx_trait(w: &mut Sink<'_>, plan: &Plan<'_>)
+    ensures { let env = env_of plan.now in Shows env 0 (generate_ctx_trait env) w.old w.new }
 {
-    let at = put_bytes(
-        out,
-        at,
-        end,
+    w.put_bytes(
         b"
 /// Context during lowering: an implementation of this trait
 /// must be provided with all external constructors and extractors.
@@ -456,7 +275,7 @@ pub fn generate_ctx_trait(
 pub trait Context {
 ",
     );
-    let at = term_sigs(out, at, end, plan, words, rows, tables);
-    let at = put_bytes(out, at, end, b"}\n");
-    iterator_text(out, at, end)
+    term_sigs(w, plan);
+    w.put_bytes(b"}\n");
+    iterator_text(w);
 }

@@ -2,7 +2,7 @@
 -- says `Answers (answer plan (length before)) r before after` of its result r and the buffer before and after; those of `emit_terms` and
 -- `emit_items` say the same with `terms_answer` and `items_answer`. So what is proved here from `Answers` holds of each of their calls.
 -- Assumes nothing.
-use Rattle.std.specs.Prelude.{zero, ℕ, suc, ◌≤◌, ◌≡◌, Bool, List}
+use Rattle.std.specs.Prelude.{zero, ℕ, suc, ◌≤◌, ◌≡◌, Bool, List, Ok, Err}
 use Rattle.std.proofs.Math.Path.{refl}
 use Rattle.std.proofs.Common.{sym, ◌∙◌, arith, ne_eqb, leb-true}
 use Rattle.std.proofs.Math.Bool.{true, false, cond}
@@ -15,11 +15,11 @@ use Rattle.codegen.specs.Answer.{refuse, answer, terms_answer, whole_text}
 use Rattle.codegen.specs.AnswerLaws.{Judged, turned_away, taken, judged_outcome}
 use Rattle.splitting.specs.Cases.{false_true}
 use Rattle.splitting.specs.Accepted.{accepted_read}
-use Rattle.emitter.specs.declared.Emitted.{Emitted}
-use Rattle.emitter.specs.declared.Emitted.TheVariants.{Refused, Text}
+use Rattle.refusal.specs.Number.{number}
+use Rattle.refusal.specs.declared.Refusal.{Refusal}
 use Rattle.emitter.specs.declared.Form.{Form}
 use Rattle.emitter.specs.declared.Form.TheVariants.{Whole, Terms, Items}
-use Rattle.emitter.specs.Answered.{Answers, items_answer}
+use Rattle.emitter.specs.Answered.{Emitted, Answers, items_answer}
 use Rattle.emitter.specs.Held.{form_text, form_count, answer_with, answer_in}
 use Rattle.emitter.specs.EntryLaws.{form_le, whole_is, terms_is, items_is}
 use Rattle.demands.specs.Checks.{checks, first_failing, all_pass, first_to_fail, number_given, first_check}
@@ -34,13 +34,13 @@ module _ (f : Form) (plan before : List ℕ) where
 
   refusing : (n : ℕ) → n ≤ 11 → first_failing 0 list ≡ n → 1 ≤ n → (r : Emitted) {after : List ℕ} → Answers (refuse n) r before after → Demanded r after
   refusing zero h e g r {after = after} q = elim g [ ]
-  refusing (suc n) h e g (Refused m) q = let z : m ≡ suc n = q.number in rw (q.bytes, z) (refusal (suc n) g h (first_to_fail list n e))
-  refusing (suc n) h e g (Text l k) q = false_true (sym (ne_eqb (suc n) 0 (λ z. absurd (omega arith))) ∙ sym q.written)
+  refusing (suc n) h e g (Err m) q = let z : number m ≡ suc n = q.number in rw q.bytes (refusal m (rw z g) (rw z h) (rw z (first_to_fail list n e)))
+  refusing (suc n) h e g (Ok t) q = false_true (sym (ne_eqb (suc n) 0 (λ z. absurd (omega arith))) ∙ sym q.written)
 
   writing : (p : Plan) → outcome plan ≡ accepted p → first_failing 0 list ≡ 0 → length (form_text f p) ≤ length before → (r : Emitted) {after : List ℕ}
       → Answers (record { number = 0; length = length (form_text f p); count = form_count f p; text = form_text f p }) r before after → Demanded r after
-  writing p e g h (Refused m) q = false_true q.written
-  writing p e g h (Text l k) q = rw (q.bytes, q.length, q.count) (text p (accepted_read plan p e) e (all_pass list g) h (form_le f p))
+  writing p e g h (Err m) q = false_true q.written
+  writing p e g h (Ok t) q = rw (q.bytes, q.length, q.count) (text p (accepted_read plan p e) e (all_pass list g) h (form_le f p))
 
   text_or_refusal : (r : Emitted) {after : List ℕ} → Answers (answer_in f (length before) (outcome plan)) r before after → Demanded r after
   unfolding answer_in answer_with number_given

@@ -1,5 +1,5 @@
 -- Demand 2, of the entry `emit_items`: header, trait and types alone. Assumes nothing.
-use Rattle.std.specs.Prelude.{ℕ, ◌≤◌, ◌≡◌, refl, List, length, drop}
+use Rattle.std.specs.Prelude.{ℕ, ◌≤◌, ◌≡◌, refl, List, length, drop, Ok, Err}
 use Rattle.std.proofs.Common.{sym, ◌∙◌, le-leb}
 use Rattle.std.proofs.Math.Seq.{take-append_seam}
 use Rattle.plan.specs.Plan.{Plan}
@@ -9,9 +9,7 @@ use Rattle.codegen.specs.Answer.{answer_of}
 use Rattle.splitting.specs.Cases.{false_true}
 use Rattle.read_back.proofs.TokenLaws.{joined_pieces}
 use Rattle.read_back.proofs.Theorems.{whole_text_origins}
-use Rattle.emitter.specs.declared.Emitted.{Emitted}
-use Rattle.emitter.specs.declared.Emitted.TheVariants.{Refused, Text}
-use Rattle.emitter.specs.Answered.{Answers, items_answer}
+use Rattle.emitter.specs.Answered.{Emitted, Answers, items_answer, gives}
 use Rattle.demands.specs.Demand1.{TextOrRefusal, text, items_text}
 use Rattle.demands.specs.Demand2.{Writes}
 use Rattle.demands.specs.Demand2Items.{NoLiterals}
@@ -24,13 +22,13 @@ unfolding items_answer answer_of
 demand_2_items plan before p {r} {after} e h q = by_result r (rw (le-leb (length (items_text p)) (length before) h) at (rw e at q))
   where
     by_result : (r : Emitted) → Answers (record { number = 0; length = length (items_text p); count = 0; text = items_text p }) r before after → Writes (items_text p) 0 before r after
-    by_result (Refused n) q = false_true q.written
-    by_result (Text l k) q = record { result = rw (q.length, q.count) refl; bytes = q.bytes }
+    by_result (Err n) q = false_true q.written
+    by_result (Ok t) q = record { result = rw (q.length, q.count) refl; bytes = q.bytes }
 
-pub demand_2_read_back_items : (plan before : List ℕ) {l k : ℕ} {after : List ℕ} → Answers (items_answer plan (length before)) (Text l k) before after → NoLiterals plan l k after
+pub demand_2_read_back_items : (plan before : List ℕ) {l k : ℕ} {after : List ℕ} → Answers (items_answer plan (length before)) (gives l k) before after → NoLiterals plan l k after
 demand_2_read_back_items plan before q = go (demand_1_items plan before q)
   where
-    go : {l k : ℕ} {after : List ℕ} → TextOrRefusal items_text (λ p. 0) plan before (Text l k) after → NoLiterals plan l k after
+    go : {l k : ℕ} {after : List ℕ} → TextOrRefusal items_text (λ p. 0) plan before (gives l k) after → NoLiterals plan l k after
     go (text p r e c h g) = record {
       p = p;
       is = e;

@@ -1,7 +1,7 @@
 -- The three demands, of the C functions `rizhavel_whole`, `rizhavel_terms` and `rizhavel_items` (emitter_c/src/lib.rt). Their contracts
 -- say `Exports (answer plan (length before)) n before after told told'`, or the same with `terms_answer` or `items_answer`, of the number n
 -- that is returned, the buffer before and after, and the lent slice of numbers before and after, however short. Assumes nothing.
-use Rattle.std.specs.Prelude.{ℕ, zero, suc, ◌≤◌, ◌≡◌, refl, Bool, true, false, cond, List, [], ◌∷◌, leb, length, get_or, take}
+use Rattle.std.specs.Prelude.{ℕ, zero, suc, ◌≤◌, ◌≡◌, refl, Bool, true, false, cond, List, [], ◌∷◌, ◌<◌, ◌+◌, leb, length, get_or, take, Ok, Err}
 use Rattle.std.proofs.Common.{sym, ◌∙◌, arith, ne_eqb}
 use Rattle.std.proofs.Math.Option.{some}
 use Rattle.std.proofs.lemmas.List.Edits.{sets}
@@ -11,13 +11,15 @@ use Rattle.plan.specs.Refusal.{Outcome, refused, accepted, outcome}
 use Rattle.codegen.specs.Items.{items}
 use Rattle.codegen.specs.Terms.{terms_text, odds}
 use Rattle.codegen.specs.Answer.{Answer, refuse, answer_of, answer, terms_answer, whole_text}
+use Rattle.codegen.specs.AnswerLaws.{Judged, turned_away, taken, judged_outcome}
 use Rattle.codegen.specs.TakeOff.{closures_off, closures_off_terms}
 use Rattle.splitting.specs.Demand3.{SplitPair, SplitBytes}
 use Rattle.read_back.specs.Tokens.{piece_tokens, whole_tokens, terms_tokens}
-use Rattle.emitter.specs.declared.Emitted.{Emitted}
-use Rattle.emitter.specs.declared.Emitted.TheVariants.{Refused, Text}
+use Rattle.refusal.specs.Number.{number}
+use Rattle.refusal.specs.declared.Refusal.{Refusal}
+use Rattle.refusal.specs.declared.Refusal.TheVariants.{TooLong, Byte, Layout, Most, Exists, Lengths, Lower, Returns, Armless, Loop, Room}
 use Rattle.demands.specs.Exported.{Told, Where}
-use Rattle.emitter.specs.Answered.{Answers, Exports, items_answer}
+use Rattle.emitter.specs.Answered.{Emitted, Answers, Exports, items_answer, gives}
 use Rattle.demands.specs.Demand1.{TextOrRefusal, items_text}
 use Rattle.demands.proofs.Demand1.{demand_1, demand_1_terms, demand_1_items}
 use Rattle.demands.specs.Demand2.{Writes, ReadBack, FromRows, demand_2, demand_2_terms, demand_2_read_back, demand_2_read_back_terms, demand_2_origins, demand_2_origins_terms}
@@ -47,7 +49,22 @@ set_pair_others (a ∷ b ∷ told) l k (suc (suc i)) h = refl
 
 -- WHATEVER HOLDS OF THE ENTRY'S CALLS HOLDS OF THE C FUNCTION'S
 
-module _ (a : Answer) (nothing : 1 ≤ a.number → (a.length ≡ 0) × (a.count ≡ 0)) {n : ℕ} {before after told told' : List ℕ} (P : Emitted → Type 0) (h : (r : Emitted) → Answers a r before after → P r) where
+-- each number from 1 to 11 is a refusal's
+numbered : (n : ℕ) → n < 11 → (r : Refusal) × (number r ≡ suc n)
+numbered zero h = (TooLong, refl)
+numbered (suc zero) h = (Byte, refl)
+numbered (suc (suc zero)) h = (Layout, refl)
+numbered (suc (suc (suc zero))) h = (Most, refl)
+numbered (suc (suc (suc (suc zero)))) h = (Exists, refl)
+numbered (suc (suc (suc (suc (suc zero))))) h = (Lengths, refl)
+numbered (suc (suc (suc (suc (suc (suc zero)))))) h = (Lower, refl)
+numbered (suc (suc (suc (suc (suc (suc (suc zero))))))) h = (Returns, refl)
+numbered (suc (suc (suc (suc (suc (suc (suc (suc zero)))))))) h = (Armless, refl)
+numbered (suc (suc (suc (suc (suc (suc (suc (suc (suc zero))))))))) h = (Loop, refl)
+numbered (suc (suc (suc (suc (suc (suc (suc (suc (suc (suc zero)))))))))) h = (Room, refl)
+numbered (suc (suc (suc (suc (suc (suc (suc (suc (suc (suc (suc n))))))))))) h = absurd (omega arith)
+
+module _ (a : Answer) (nothing : 1 ≤ a.number → (a.length ≡ 0) × (a.count ≡ 0)) (most : a.number ≤ 11) {n : ℕ} {before after told told' : List ℕ} (P : Emitted → Type 0) (h : (r : Emitted) → Answers a r before after → P r) where
   tells : (r : Emitted) → Answers a r before after → Exports a n before after told told' → Told P n told told'
   tells r q e = record {
     result = r;
@@ -64,10 +81,24 @@ module _ (a : Answer) (nothing : 1 ≤ a.number → (a.length ≡ 0) × (a.count
   told_of e = by_number n e.numbered
     where
       by_number : (m : ℕ) → m ≡ a.number → Told P n told told'
-      by_number zero z = tells (Text a.length a.count) (record { number = z; length = refl; count = refl; written = rw (← z) refl; bytes = e.bytes }) e
+      by_number zero z = tells (gives a.length a.count) (record { number = z; length = refl; count = refl; written = rw (← z) refl; bytes = e.bytes }) e
       by_number (suc m) z =
           let g : (a.length ≡ 0) × (a.count ≡ 0) = nothing (omega arith) in
-          tells (Refused (suc m)) (record { number = z; length = sym g.0; count = sym g.1; written = rw (ne_eqb a.number 0 (λ y. absurd (omega arith))) refl; bytes = e.bytes }) e
+          let r : (r : Refusal) × (number r ≡ suc m) = numbered m (omega arith) in
+          tells (Err r.0) (record { number = r.1 ∙ z; length = sym g.0; count = sym g.1; written = rw (ne_eqb a.number 0 (λ y. absurd (omega arith))) refl; bytes = e.bytes }) e
+
+-- no number is larger
+most_of : (form : Plan → List ℕ) (room : ℕ) (plan : List ℕ) → (answer_of form room (outcome plan)).number ≤ 11
+unfolding answer_of
+most_of form room plan = by_outcome (judged_outcome plan)
+  where
+    by_room : (b : Bool) (a : Answer) → a.number ≡ 0 → (cond b a (refuse 11)).number ≤ 11
+    by_room true a z = omega arith
+    by_room false a z = omega arith
+
+    by_outcome : {o : Outcome} → Judged o → (answer_of form room o).number ≤ 11
+    by_outcome (turned_away n h g) = omega arith
+    by_outcome (taken p) = by_room (leb (length (form p)) room) _ refl
 
 -- a refusal has length 0 and count 0
 nothing_given : (form : Plan → List ℕ) (room : ℕ) (o : Outcome) → 1 ≤ (answer_of form room o).number → ((answer_of form room o).length ≡ 0) × ((answer_of form room o).count ≡ 0)
@@ -82,19 +113,19 @@ nothing_given form room (accepted p) h = by_room (leb (length (form p)) room) _ 
 module _ (plan before : List ℕ) {n : ℕ} {after told told' : List ℕ} (P : Emitted → Type 0) where
   pub rizhavel_whole : ((r : Emitted) → Answers (answer plan (length before)) r before after → P r) → Exports (answer plan (length before)) n before after told told' → Told P n told told'
   unfolding answer
-  rizhavel_whole h e = told_of _ (nothing_given whole_text (length before) (outcome plan)) P h e
+  rizhavel_whole h e = told_of _ (nothing_given whole_text (length before) (outcome plan)) (most_of whole_text (length before) plan) P h e
 
   pub rizhavel_terms : ((r : Emitted) → Answers (terms_answer plan (length before)) r before after → P r) → Exports (terms_answer plan (length before)) n before after told told' → Told P n told told'
   unfolding terms_answer
-  rizhavel_terms h e = told_of _ (nothing_given terms_text (length before) (outcome plan)) P h e
+  rizhavel_terms h e = told_of _ (nothing_given terms_text (length before) (outcome plan)) (most_of terms_text (length before) plan) P h e
 
   pub rizhavel_items : ((r : Emitted) → Answers (items_answer plan (length before)) r before after → P r) → Exports (items_answer plan (length before)) n before after told told' → Told P n told told'
   unfolding items_answer
-  rizhavel_items h e = told_of _ (λ g. ((nothing_given items_text (length before) (outcome plan) g).0, refl)) P h e
+  rizhavel_items h e = told_of _ (λ g. ((nothing_given items_text (length before) (outcome plan) g).0, refl)) (most_of items_text (length before) plan) P h e
 
-where_text : {a : Answer} {before after : List ℕ} (P : ℕ → ℕ → Type 0) → ((l k : ℕ) → Answers a (Text l k) before after → P l k) → (r : Emitted) → Answers a r before after → Where P r
-where_text P h (Refused n) q = tt
-where_text P h (Text l k) q = h l k q
+where_text : {a : Answer} {before after : List ℕ} (P : ℕ → ℕ → Type 0) → ((l k : ℕ) → Answers a (gives l k) before after → P l k) → (r : Emitted) → Answers a r before after → Where P r
+where_text P h (Err r) q = tt
+where_text P h (Ok t) q = h t.length t.count q
 
 -- `rizhavel_whole`
 

@@ -1,13 +1,14 @@
 -- Demand 1: what is said of a call, its result and the buffer. proofs/Demand1 proves it of the entries. Assumes nothing: these are definitions.
-use Rattle.std.specs.Prelude.{ℕ, ◌≤◌, ◌≡◌, true, List, ◌++◌, drop, length}
+use Rattle.std.specs.Prelude.{ℕ, ◌≤◌, ◌≡◌, true, List, ◌++◌, drop, length, Err}
 use Rattle.std.proofs.Math.Option.{some}
 use Rattle.plan.specs.Plan.{Plan}
 use Rattle.plan.specs.Layout.{read}
 use Rattle.plan.specs.Refusal.{accepted, outcome}
 use Rattle.codegen.specs.Piece.{render}
 use Rattle.codegen.specs.Items.{items}
-use Rattle.emitter.specs.declared.Emitted.{Emitted}
-use Rattle.emitter.specs.declared.Emitted.TheVariants.{Refused, Text}
+use Rattle.refusal.specs.Number.{number}
+use Rattle.refusal.specs.declared.Refusal.{Refusal}
+use Rattle.emitter.specs.Answered.{Emitted, gives}
 use Rattle.demands.specs.Checks.{checks, passes, FirstToFail}
 
 -- DEMAND 1: "A caller may hand over any bytes as a plan, and an output buffer of any length, and gets the text or one of the
@@ -16,11 +17,11 @@ use Rattle.demands.specs.Checks.{checks, passes, FirstToFail}
 
 -- of a text that is asked for, with its count, a plan's bytes and the buffer before: the result, and the buffer after
 pub data TextOrRefusal (form : Plan → List ℕ) (odd : Plan → ℕ) (plan before : List ℕ) : Emitted → List ℕ → Type 0 where
-  -- check n of the list (Checks.antt) fails, and every earlier one passes
-  refusal : (n : ℕ) → 1 ≤ n → n ≤ 11 → FirstToFail (checks form plan (length before)) n → TextOrRefusal form odd plan before (Refused n) before
+  -- the check of the list (Checks.antt) that has the refusal's number fails, and every earlier one passes
+  refusal : (r : Refusal) → 1 ≤ number r → number r ≤ 11 → FirstToFail (checks form plan (length before)) (number r) → TextOrRefusal form odd plan before (Err r) before
   -- every check passes, and the text and the count are those of the plan that the bytes are read as
   text : (p : Plan) → read plan ≡ some p → outcome plan ≡ accepted p → ((n : ℕ) → passes (checks form plan (length before)) n ≡ true) → length (form p) ≤ length before → odd p ≤ length (form p)
-      → TextOrRefusal form odd plan before (Text (length (form p)) (odd p)) (form p ++ drop (length (form p)) before)
+      → TextOrRefusal form odd plan before (gives (length (form p)) (odd p)) (form p ++ drop (length (form p)) before)
 
 -- header, trait and types: no literals stand there
 abbrev pub items_text : Plan → List ℕ

@@ -1,5 +1,5 @@
 -- Demand 2, of the entries `emit` and `emit_terms`. Assumes nothing.
-use Rattle.std.specs.Prelude.{ℕ, ◌%◌, ◌^◌, ◌≤◌, ◌≡◌, refl, true, false, List, [], ◌++◌, length, drop, take}
+use Rattle.std.specs.Prelude.{ℕ, ◌%◌, ◌^◌, ◌≤◌, ◌≡◌, refl, true, false, List, [], ◌++◌, length, drop, take, Ok, Err}
 use Rattle.std.proofs.Common.{◌∙◌, le-leb}
 use Rattle.std.proofs.Math.Option.{some, none}
 use Rattle.literal.specs.declared.builtin_type.IntType.{IntType}
@@ -18,9 +18,7 @@ use Rattle.splitting.specs.Cases.{false_true}
 use Rattle.read_back.specs.Tokens.{Token, string, integer, joined, piece_tokens, whole_tokens, terms_tokens, odd_count, ReadsBack, Reads, ◌∈◌}
 use Rattle.read_back.specs.Origins.{Origins}
 use Rattle.read_back.proofs.Theorems.{whole_text_reads_back, terms_text_reads_back, whole_text_origins, terms_text_origins}
-use Rattle.emitter.specs.declared.Emitted.{Emitted}
-use Rattle.emitter.specs.declared.Emitted.TheVariants.{Refused, Text}
-use Rattle.emitter.specs.Answered.{Answers}
+use Rattle.emitter.specs.Answered.{Emitted, Answers, gives}
 use Rattle.demands.specs.Calls.{Wrote, wrote}
 
 -- DEMAND 2: "For every plan that passes refusals 1 to 10, with a buffer long enough: the bytes are those that the crate's release build
@@ -28,7 +26,7 @@ use Rattle.demands.specs.Calls.{Wrote, wrote}
 -- are the crate's is tested (tools/try-definition, bench/run whole compare).
 
 pub record Writes (t : List ℕ) (count : ℕ) (before : List ℕ) (r : Emitted) (after : List ℕ) : Type 0 where
-  pub result : r ≡ Text (length t) count
+  pub result : r ≡ gives (length t) count
   pub bytes : after ≡ t ++ drop (length t) before
 
 writes : (form : Plan → List ℕ) (p : Plan) {before : List ℕ} {r : Emitted} {after : List ℕ} → length (form p) ≤ length before → Answers (answer_of form (length before) (accepted p)) r before after → Writes (form p) (odds p) before r after
@@ -36,8 +34,8 @@ unfolding answer_of
 writes form p {before} {r} {after} h q = by_result r (rw (le-leb (length (form p)) (length before) h) at q)
   where
     by_result : (r : Emitted) → Answers (record { number = 0; length = length (form p); count = odds p; text = form p }) r before after → Writes (form p) (odds p) before r after
-    by_result (Refused n) q = false_true q.written
-    by_result (Text l k) q = record { result = rw (q.length, q.count) refl; bytes = q.bytes }
+    by_result (Err n) q = false_true q.written
+    by_result (Ok t) q = record { result = rw (q.length, q.count) refl; bytes = q.bytes }
 
 pub demand_2 : (plan before : List ℕ) (p : Plan) {r : Emitted} {after : List ℕ} → outcome plan ≡ accepted p → length (whole_text p) ≤ length before → Answers (answer plan (length before)) r before after → Writes (whole_text p) (odds p) before r after
 unfolding answer
@@ -90,11 +88,11 @@ read_back tokens w r = record {
   untyped_never = λ m. (r.each _ m).never;
 }
 
-pub demand_2_read_back : (plan before : List ℕ) {l k : ℕ} {after : List ℕ} → Answers (answer plan (length before)) (Text l k) before after → ReadBack plan whole_tokens l k after
+pub demand_2_read_back : (plan before : List ℕ) {l k : ℕ} {after : List ℕ} → Answers (answer plan (length before)) (gives l k) before after → ReadBack plan whole_tokens l k after
 unfolding answer
 demand_2_read_back plan before q = let w = wrote whole_text plan before q in read_back whole_tokens w (whole_text_reads_back plan w.p w.is)
 
-pub demand_2_read_back_terms : (plan before : List ℕ) {l k : ℕ} {after : List ℕ} → Answers (terms_answer plan (length before)) (Text l k) before after → ReadBack plan terms_tokens l k after
+pub demand_2_read_back_terms : (plan before : List ℕ) {l k : ℕ} {after : List ℕ} → Answers (terms_answer plan (length before)) (gives l k) before after → ReadBack plan terms_tokens l k after
 unfolding terms_answer
 demand_2_read_back_terms plan before q = let w = wrote terms_text plan before q in read_back terms_tokens w (terms_text_reads_back plan w.p w.is)
 
@@ -108,12 +106,12 @@ pub record FromRows (plan : List ℕ) (head tokens : Plan → List Token) (l : �
   pub text_is : take l after ≡ joined (tokens p)
   pub origins : Origins p (head p) (tokens p)
 
-pub demand_2_origins : (plan before : List ℕ) {l k : ℕ} {after : List ℕ} → Answers (answer plan (length before)) (Text l k) before after → FromRows plan (λ p. piece_tokens p.env 0 (items p)) whole_tokens l after
+pub demand_2_origins : (plan before : List ℕ) {l k : ℕ} {after : List ℕ} → Answers (answer plan (length before)) (gives l k) before after → FromRows plan (λ p. piece_tokens p.env 0 (items p)) whole_tokens l after
 demand_2_origins plan before {l} {k} {after} q =
     let r : ReadBack plan whole_tokens l k after = demand_2_read_back plan before q in
     record { p = r.p; is = r.is; text_is = r.text_is; origins = whole_text_origins r.p }
 
-pub demand_2_origins_terms : (plan before : List ℕ) {l k : ℕ} {after : List ℕ} → Answers (terms_answer plan (length before)) (Text l k) before after → FromRows plan (λ p. []) terms_tokens l after
+pub demand_2_origins_terms : (plan before : List ℕ) {l k : ℕ} {after : List ℕ} → Answers (terms_answer plan (length before)) (gives l k) before after → FromRows plan (λ p. []) terms_tokens l after
 demand_2_origins_terms plan before {l} {k} {after} q =
     let r : ReadBack plan terms_tokens l k after = demand_2_read_back_terms plan before q in
     record { p = r.p; is = r.is; text_is = r.text_is; origins = terms_text_origins r.p }

@@ -7,8 +7,7 @@ use Rattle.codegen.specs.Answer.{answer, terms_answer}
 use Rattle.read_back.specs.Tokens.{Token, joined, whole_tokens, terms_tokens}
 use Rattle.token_boundaries.specs.Boundary.{TokensStand}
 use Rattle.token_boundaries.proofs.Theorems.{whole_tokens_stand, terms_tokens_stand}
-use Rattle.emitter.specs.declared.Emitted.TheVariants.{Text}
-use Rattle.emitter.specs.Answered.{Answers}
+use Rattle.emitter.specs.Answered.{Answers, gives}
 use Rattle.demands.specs.Demand2.{ReadBack, demand_2_read_back, demand_2_read_back_terms}
 
 pub record Boundaries (plan : List ℕ) (tokens : Plan → List Token) (l : ℕ) (after : List ℕ) : Type 0 where
@@ -18,12 +17,12 @@ pub record Boundaries (plan : List ℕ) (tokens : Plan → List Token) (l : ℕ)
   pub text_is : take l after ≡ joined (tokens p)
   pub stand : TokensStand (tokens p)
 
-pub demand_2_boundaries : (plan before : List ℕ) {l k : ℕ} {after : List ℕ} → Answers (answer plan (length before)) (Text l k) before after → Boundaries plan whole_tokens l after
+pub demand_2_boundaries : (plan before : List ℕ) {l k : ℕ} {after : List ℕ} → Answers (answer plan (length before)) (gives l k) before after → Boundaries plan whole_tokens l after
 demand_2_boundaries plan before {l} {k} {after} q =
     let r : ReadBack plan whole_tokens l k after = demand_2_read_back plan before q in
     record { p = r.p; is = r.is; text_is = r.text_is; stand = whole_tokens_stand plan r.p r.is }
 
-pub demand_2_boundaries_terms : (plan before : List ℕ) {l k : ℕ} {after : List ℕ} → Answers (terms_answer plan (length before)) (Text l k) before after → Boundaries plan terms_tokens l after
+pub demand_2_boundaries_terms : (plan before : List ℕ) {l k : ℕ} {after : List ℕ} → Answers (terms_answer plan (length before)) (gives l k) before after → Boundaries plan terms_tokens l after
 demand_2_boundaries_terms plan before {l} {k} {after} q =
     let r : ReadBack plan terms_tokens l k after = demand_2_read_back_terms plan before q in
     record { p = r.p; is = r.is; text_is = r.text_is; stand = terms_tokens_stand plan r.p r.is }

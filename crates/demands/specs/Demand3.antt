@@ -18,8 +18,7 @@ use Rattle.splitting.specs.Cases.{false_true}
 use Rattle.splitting.specs.Demand3.{SplitPair, SplitBytes, rows_below, split_arms, number, four_lines, edges_at, edges_have_rows, opened_rows, numbers, count, counting, BlockTable}
 use Rattle.splitting.proofs.Theorems.{answers_agree, terms_answers_agree, closures_are_those_of_split_arms, closures_have_rows, numbered_in_opening_order, closure_encloses_body, text_by_block_tables}
 use Rattle.splitting.proofs.PlanBytes.{bytes_pair}
-use Rattle.emitter.specs.declared.Emitted.TheVariants.{Text}
-use Rattle.emitter.specs.Answered.{Answers}
+use Rattle.emitter.specs.Answered.{Answers, gives}
 use Rattle.demands.specs.Calls.{Wrote, wrote}
 
 -- DEMAND 3: "Take any two plans that differ only in split and threshold, splitting off in one and on in the other, whatever the threshold,
@@ -29,20 +28,20 @@ use Rattle.demands.specs.Calls.{Wrote, wrote}
 -- lose. splitting/specs/Demand3 has the same of the definition.
 
 -- the text and the count of a call that wrote one are the answer's
-read_text : {a : Answer} {l k : ℕ} {before after : List ℕ} → Given (length before) a → Answers a (Text l k) before after → (a.number ≡ 0) × (take l after ≡ a.text) × (k ≡ a.count)
+read_text : {a : Answer} {l k : ℕ} {before after : List ℕ} → Given (length before) a → Answers a (gives l k) before after → (a.number ≡ 0) × (take l after ≡ a.text) × (k ≡ a.count)
 read_text (refusing m h g) q = false_true (sym (ne_eqb m 0 (λ z. absurd (omega arith))) ∙ sym q.written)
 read_text {before = before} (writing t c h g) q = (refl, rw (q.bytes, q.length) (take-append_seam t (drop (length t) before)), q.count)
 
-pub demand_3 : (a b : List ℕ) (p q : Plan) → SplitPair a b p q → {l k : ℕ} {before after : List ℕ} → Answers (answer a (length before)) (Text l k) before after
-    → {m n : ℕ} {before' after' : List ℕ} → Answers (answer b (length before')) (Text m n) before' after' → (closures_off a (take l after) ≡ some (take m after')) × (k ≡ n)
+pub demand_3 : (a b : List ℕ) (p q : Plan) → SplitPair a b p q → {l k : ℕ} {before after : List ℕ} → Answers (answer a (length before)) (gives l k) before after
+    → {m n : ℕ} {before' after' : List ℕ} → Answers (answer b (length before')) (gives m n) before' after' → (closures_off a (take l after) ≡ some (take m after')) × (k ≡ n)
 demand_3 a b p q s {before = before} x {before' = before'} y =
     let u = read_text (answer_given a (length before)) x in
     let v = read_text (answer_given b (length before')) y in
     let w = answers_agree a b p q s (length before) (length before') u.0 v.0 in
     (ap (closures_off a) u.1 ∙ w.0 ∙ ap some (sym v.1), u.2 ∙ w.1 ∙ sym v.2)
 
-pub demand_3_terms : (a b : List ℕ) (p q : Plan) → SplitPair a b p q → {l k : ℕ} {before after : List ℕ} → Answers (terms_answer a (length before)) (Text l k) before after
-    → {m n : ℕ} {before' after' : List ℕ} → Answers (terms_answer b (length before')) (Text m n) before' after' → (closures_off_terms a (take l after) ≡ some (take m after')) × (k ≡ n)
+pub demand_3_terms : (a b : List ℕ) (p q : Plan) → SplitPair a b p q → {l k : ℕ} {before after : List ℕ} → Answers (terms_answer a (length before)) (gives l k) before after
+    → {m n : ℕ} {before' after' : List ℕ} → Answers (terms_answer b (length before')) (gives m n) before' after' → (closures_off_terms a (take l after) ≡ some (take m after')) × (k ≡ n)
 demand_3_terms a b p q s {before = before} x {before' = before'} y =
     let u = read_text (terms_answer_given a (length before)) x in
     let v = read_text (terms_answer_given b (length before')) y in
@@ -51,16 +50,16 @@ demand_3_terms a b p q s {before = before} x {before' = before'} y =
 
 -- The same for a reader of the bytes alone: a and b are two plans' bytes, the same but for the values of split and threshold. That both
 -- calls wrote a text says that both plans are accepted.
-pub demand_3_bytes : (a b : List ℕ) → SplitBytes a b → {l k : ℕ} {before after : List ℕ} → Answers (answer a (length before)) (Text l k) before after
-    → {m n : ℕ} {before' after' : List ℕ} → Answers (answer b (length before')) (Text m n) before' after' → (closures_off a (take l after) ≡ some (take m after')) × (k ≡ n)
+pub demand_3_bytes : (a b : List ℕ) → SplitBytes a b → {l k : ℕ} {before after : List ℕ} → Answers (answer a (length before)) (gives l k) before after
+    → {m n : ℕ} {before' after' : List ℕ} → Answers (answer b (length before')) (gives m n) before' after' → (closures_off a (take l after) ≡ some (take m after')) × (k ≡ n)
 unfolding answer
 demand_3_bytes a b s {before = before} x {before' = before'} y =
     let p = wrote whole_text a before x in
     let q = wrote whole_text b before' y in
     demand_3 a b p.p q.p (bytes_pair a b p.p q.p s p.is q.is) x y
 
-pub demand_3_bytes_terms : (a b : List ℕ) → SplitBytes a b → {l k : ℕ} {before after : List ℕ} → Answers (terms_answer a (length before)) (Text l k) before after
-    → {m n : ℕ} {before' after' : List ℕ} → Answers (terms_answer b (length before')) (Text m n) before' after' → (closures_off_terms a (take l after) ≡ some (take m after')) × (k ≡ n)
+pub demand_3_bytes_terms : (a b : List ℕ) → SplitBytes a b → {l k : ℕ} {before after : List ℕ} → Answers (terms_answer a (length before)) (gives l k) before after
+    → {m n : ℕ} {before' after' : List ℕ} → Answers (terms_answer b (length before')) (gives m n) before' after' → (closures_off_terms a (take l after) ≡ some (take m after')) × (k ≡ n)
 unfolding terms_answer
 demand_3_bytes_terms a b s {before = before} x {before' = before'} y =
     let p = wrote terms_text a before x in
@@ -116,10 +115,10 @@ closures {plan} head w = record {
   };
 }
 
-pub demand_3_closures : (plan before : List ℕ) {l k : ℕ} {after : List ℕ} → Answers (answer plan (length before)) (Text l k) before after → Closures plan (λ p. render p.env 0 (items p)) (take l after)
+pub demand_3_closures : (plan before : List ℕ) {l k : ℕ} {after : List ℕ} → Answers (answer plan (length before)) (gives l k) before after → Closures plan (λ p. render p.env 0 (items p)) (take l after)
 unfolding answer whole_text
 demand_3_closures plan before q = closures (λ p. render p.env 0 (items p)) (wrote whole_text plan before q)
 
-pub demand_3_closures_terms : (plan before : List ℕ) {l k : ℕ} {after : List ℕ} → Answers (terms_answer plan (length before)) (Text l k) before after → Closures plan (λ p. []) (take l after)
+pub demand_3_closures_terms : (plan before : List ℕ) {l k : ℕ} {after : List ℕ} → Answers (terms_answer plan (length before)) (gives l k) before after → Closures plan (λ p. []) (take l after)
 unfolding terms_answer
 demand_3_closures_terms plan before q = closures (λ p. []) (wrote terms_text plan before q)

@@ -1,8 +1,6 @@
 -- The three demands, of the C functions: what is said of a call. proofs/Exported proves it. Assumes nothing: these are definitions.
-use Rattle.std.specs.Prelude.{ℕ, ◌≤◌, ◌≡◌, List, eqb, length, get_or}
-use Rattle.emitter.specs.declared.Emitted.{Emitted}
-use Rattle.emitter.specs.declared.Emitted.TheVariants.{Refused, Text}
-use Rattle.emitter.specs.Answered.{number_of, length_of, count_of, is_text}
+use Rattle.std.specs.Prelude.{ℕ, ◌≤◌, ◌≡◌, List, eqb, length, get_or, Ok, Err}
+use Rattle.emitter.specs.Answered.{Emitted, number_of, length_of, count_of, is_text}
 
 -- what a C function tells: of a result with the property P its number n, which is 0 for a text, and as the first two entries of the
 -- slice its length and count, as far as there are such; the other entries are unchanged, and there are as many as before
@@ -18,5 +16,5 @@ pub record Told (P : Emitted → Type 0) (n : ℕ) (told told' : List ℕ) : Typ
 
 -- a property of a text's length and count, where there is a text
 abbrev pub Where : (ℕ → ℕ → Type 0) → Emitted → Type 0
-Where P (Refused n) = Unit
-Where P (Text l k) = P l k
+Where P (Err r) = Unit
+Where P (Ok t) = P t.length t.count

@@ -3,3 +3,5 @@ pub mod Emits
 pub mod Pieces
 pub mod Rows
 pub mod Marks
+pub mod Sinks
+pub mod Runs

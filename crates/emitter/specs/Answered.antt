@@ -1,26 +1,35 @@
 -- What the entries answer, as document 01's number, length and count, and what they promise. Assumes nothing: these are definitions.
-use Rattle.std.specs.Prelude.{ℕ, ◌≡◌, refl, Bool, true, false, List, [], ◌∷◌, ◌++◌, eqb, drop}
+use Rattle.std.specs.Prelude.{ℕ, ◌≡◌, refl, Bool, true, false, List, [], ◌∷◌, ◌++◌, eqb, drop, Result, Ok, Err}
 use Rattle.std.proofs.Common.{◌∙◌}
 use Rattle.std.proofs.lemmas.List.Edits.{sets}
 use Rattle.plan.specs.Refusal.{outcome}
 use Rattle.codegen.specs.Piece.{render}
 use Rattle.codegen.specs.Items.{items}
 use Rattle.codegen.specs.Answer.{Answer, answer_of}
-use Rattle.emitter.specs.declared.Emitted.{Emitted}
-use Rattle.emitter.specs.declared.Emitted.TheVariants.{Refused, Text}
+use Rattle.refusal.specs.Number.{number}
+use Rattle.refusal.specs.declared.Refusal.{Refusal}
+use Rattle.emitter.specs.declared.Text.{Text}
+
+-- what an entry answers
+abbrev pub Emitted : Type 0
+Emitted = Result Text Refusal
+
+-- "An accepted plan gives the length written and the count of odd literals"
+abbrev pub gives : ℕ → ℕ → Emitted
+gives l k = Ok (record { length = l; count = k })
 
 -- "A refusal gives its number, length 0, count 0"; a text has the number 0
 abbrev pub number_of : Emitted → ℕ
-number_of (Refused n) = n
-number_of (Text l k) = 0
+number_of (Err r) = number r
+number_of (Ok t) = 0
 
 abbrev pub length_of : Emitted → ℕ
-length_of (Refused n) = 0
-length_of (Text l k) = l
+length_of (Err r) = 0
+length_of (Ok t) = t.length
 
 abbrev pub count_of : Emitted → ℕ
-count_of (Refused n) = 0
-count_of (Text l k) = k
+count_of (Err r) = 0
+count_of (Ok t) = t.count
 
 -- header, trait and types alone: no literals stand there
 abbrev pub uncounted : Answer → Answer
@@ -31,8 +40,8 @@ items_answer plan room = uncounted (answer_of (λ p. render p.env 0 (items p)) r
 
 -- a result with the number 0 is a text
 abbrev pub is_text : Emitted → Bool
-is_text (Refused n) = false
-is_text (Text l k) = true
+is_text (Err r) = false
+is_text (Ok t) = true
 
 -- the entry's result is the answer, and so is each byte of the buffer: the text, and past its length the bytes that were there
 pub record Answers (a : Answer) (r : Emitted) (before after : List ℕ) : Type 0 where

@@ -1,14 +1,13 @@
 -- What is measured and written gives the answer. Assumes nothing.
-use Rattle.std.specs.Prelude.{ℕ, ◌+◌, ◌-◌, ◌≤◌, ◌<◌, Bool, cond, ◌&&◌, List, [], ◌∷◌, ◌++◌, ltb, get_or, drop}
+use Rattle.std.specs.Prelude.{ℕ, ◌+◌, ◌-◌, ◌≤◌, ◌<◌, Bool, cond, ◌&&◌, List, [], ◌∷◌, ◌++◌, get_or, drop, Option, Some, None, Ok, Err}
 use Rattle.std.proofs.Math.Path.{◌≡◌, refl, sym}
-use Rattle.std.proofs.Common.{ap, ◌∙◌}
+use Rattle.std.proofs.Common.{ap, ◌∙◌, subst}
 use Rattle.std.proofs.Math.Bool.{true, false}
 use native.Mathlib.Omega.{arith}
 use Rattle.std.proofs.Math.Dec.{leb}
 use Rattle.std.proofs.Math.ListN.{length, take}
 use Rattle.std.proofs.Math.Seq.{take-append_seam}
-use borrow.Author.Tests.{ne_eqb, ltb-true, ltb-false, lt-ltb, leb-true, le-leb}
-use Rattle.text.specs.Sink.{Puts}
+use borrow.Author.Tests.{ne_eqb, leb-true, leb-false, le-leb}
 use Rattle.plan.specs.Plan.{Environment, Plan}
 use Rattle.plan.specs.Refusal.{Outcome, refused, accepted, outcome}
 use Rattle.codegen.specs.Piece.{render}
@@ -17,78 +16,104 @@ use Rattle.codegen.specs.Terms.{terms_text, odds, parts}
 use Rattle.codegen.specs.Answer.{Answer, refuse, answer_of, answer, terms_answer, whole_text}
 use Rattle.codegen.specs.OddLaws.{odds_le, odds_le_whole}
 use Rattle.emits.specs.Rows.{PartsEmit}
-use Rattle.splitting.specs.Cases.{and_left, and_right}
 use Rattle.splitting.specs.Accepted.{refused_number}
 use Rattle.reader.specs.Reading.{Says}
 use Rattle.refusals.specs.Answered.{Indexes}
-use Rattle.reader.specs.declared.Laid.{Laid}
-use Rattle.reader.specs.declared.Laid.TheVariants as laid
+use Rattle.reader.specs.declared.Held.{Held as Laid}
+use Rattle.refusal.specs.declared.Refusal.{Refusal}
+use Rattle.refusal.specs.declared.Refusal.TheVariants.{Room}
+use Rattle.text.specs.declared.sink.Sink.{Sink}
+use Rattle.emits.specs.Sinks.{Shows}
 use Rattle.view.specs.Tables.{plan_in}
 use Rattle.view.proofs.Plans.{environment_is}
 use Rattle.view.proofs.Held.{plan_is}
-use Rattle.sema.specs.Holds.{Holds}
-use Rattle.emitter.specs.declared.Emitted.{Emitted}
-use Rattle.emitter.specs.declared.Emitted.TheVariants.{Refused, Text}
-use Rattle.emitter.specs.Answered.{Answers, uncounted, items_answer}
+use Rattle.sema.specs.Holds.{Holds, VariantsIndexed}
+use Rattle.view.specs.Buffers.{plan_of}
+use Rattle.view.specs.declared.buffers.Plan as buffers
+use Rattle.emitter.specs.declared.Text.{Text}
+use Rattle.emitter.specs.Answered.{Emitted, Answers, uncounted, items_answer}
 use Rattle.emit_terms.specs.Accepted.{accepted_fits}
-use Rattle.emitter.specs.Held.{Held, form_text, form_count, answer_with, answer_in, below}
+use Rattle.emitter.specs.Held.{Held, HeldIn, form_text, form_count, answer_with, answer_in}
 use Rattle.emitter.specs.declared.Form.{Form}
 use Rattle.emitter.specs.declared.Form.TheVariants.{Whole, Terms, Items}
-use Rattle.emitter.specs.Texts.{Texts, texts_parts, texts_puts, puts_texts, texts_room, texts_fit, texts_written}
+use Rattle.emitter.specs.Texts.{Texts, texts_parts, texts_puts, puts_texts, texts_room, texts_fit, texts_written, Starts, WritesText, Measured}
 
 -- THE TEXTS
-
-pub terms_written : {e : ℕ} (p : Plan) {o : List ℕ} {at : ℕ} {o' : List ℕ} {at' n' : ℕ} → PartsEmit {S = Unit {0}} e p.env (parts p) o at 0 (tt {0}) o' at' n' (tt {0}) → Texts e (terms_text p) (odds p) o at 0 o' at' n'
-unfolding terms_text odds
-terms_written p q = texts_parts q
-
-pub items_written : {e : ℕ} (p : Plan) {o o' : List ℕ} {at' : ℕ} → Puts e (render p.env 0 (items p)) o 0 o' at' → Texts e (render p.env 0 (items p)) 0 o 0 0 o' at' 0
-items_written p a = texts_puts a
-
-pub whole_written : {e : ℕ} (p : Plan) {o : List ℕ} {o₁ : List ℕ} {at₁ : ℕ} {o' : List ℕ} {at' n' : ℕ} → Puts e (render p.env 0 (items p)) o 0 o₁ at₁ → Texts e (terms_text p) (odds p) o₁ at₁ 0 o' at' n' → Texts e (whole_text p) (odds p) o 0 0 o' at' n'
-unfolding whole_text
-whole_written p a b = puts_texts a b
-
--- THE ANSWER
 
 pub form_le : (f : Form) (p : Plan) → form_count f p ≤ length (form_text f p)
 form_le Whole p = odds_le_whole p
 form_le Terms p = odds_le p
 form_le Items p = omega arith
 
-module _ (t : List ℕ) (k : ℕ) (le : k ≤ length t) (room : ℕ) {o₀ o₀' : List ℕ} {at₀ n₀ : ℕ} (m : Texts (room + 1) t k o₀ 0 0 o₀' at₀ n₀) where
-  -- measured, and too long
-  pub answers_none : below at₀ n₀ (room + 1) ≡ false → (o : List ℕ) → Answers (answer_with t k room) (Refused 11) o o
-  unfolding answer_with
-  answers_none h o = go (leb (length t) room) refl
-    where
-      go : (b : Bool) → leb (length t) room ≡ b → Answers (answer_with t k room) (Refused 11) o o
-      go true q = absurd (
-          let l : length t ≤ room = leb-true (length t) room q in
-          let f : (at₀ ≡ length t) × (n₀ ≡ k) × (o₀' ≡ _) = texts_fit m le (omega arith) in
-          let y : false ≡ true = sym h ∙ rw (lt-ltb at₀ (room + 1) (omega arith), lt-ltb n₀ (room + 1) (omega arith)) refl in
-          let z : ◌≡◌ {A = ℕ} 0 1 = cc in omega arith)
-      go false q = rw q (record { number = refl; length = refl; count = refl; written = refl; bytes = refl })
+module _ (p : Plan) {w w' : Sink} where
+  pub terms_written : w'.out.ghost_name ≡ w.out.ghost_name → w'.end ≡ w.end → PartsEmit {S = Unit {0}} w.end p.env (parts p) w.out.now w.at w.odd (tt {0}) w'.out.now w'.at w'.odd (tt {0}) → WritesText (terms_text p) (odds p) w w'
+  unfolding terms_text odds
+  terms_written b e q = record { buffer = b; end = e; texts = texts_parts q }
 
-  -- measured, and it fits: then it is written
-  pub answers_text : below at₀ n₀ (room + 1) ≡ true → {o o' : List ℕ} {at n : ℕ} → room ≡ length o → Texts (room + 1) t k o 0 0 o' at n → Answers (answer_with t k room) (Text at n) o o'
+  pub items_written : Starts w → Shows p.env 0 (items p) w w' → WritesText (render p.env 0 (items p)) 0 w w'
+  items_written h q = record { buffer = q.is.buffer; end = q.is.end; texts = rw (q.is.odd, h.odd, h.at) (texts_puts (rw h.at at q.is.puts)) }
+
+  pub whole_written : {w₁ : Sink} → Starts w → Shows p.env 0 (items p) w w₁ → WritesText (terms_text p) (odds p) w₁ w' → WritesText (whole_text p) (odds p) w w'
+  unfolding whole_text
+  whole_written h q r = record {
+    buffer = r.buffer ∙ q.is.buffer;
+    end = r.end ∙ q.is.end;
+    texts = rw (h.at, h.odd) (puts_texts (rw h.at at q.is.puts) (rw (q.is.end, q.is.odd, h.odd) at r.texts));
+  }
+
+-- THE ANSWER
+
+module _ (t : List ℕ) (k : ℕ) (le : k ≤ length t) (room : ℕ) where
+  -- where a text led to says whether it fits
+  pub measured : {w w' : Sink} {r : Option Text} → Starts w → w.end ≡ room + 1 → WritesText t k w w' → r ≡ cond {A = Option Text} (leb w'.at room && leb w'.odd room) (Some (record { length = w'.at; count = w'.odd })) None → Measured t k room w.out.now w'.out.now r
+  measured {w} {w'} {r} h e q z = go (leb (length t) room) refl
+    where
+      texts : Texts (room + 1) t k w.out.now 0 0 w'.out.now w'.at w'.odd
+      texts = rw (e, h.at, h.odd) at q.texts
+
+      past : leb (length t) room ≡ false → (a b : Bool) → leb w'.at room ≡ a → leb w'.odd room ≡ b → cond {A = Option Text} (a && b) (Some (record { length = w'.at; count = w'.odd })) None ≡ None
+      past g true true x y = absurd (omega (arith, leb-false (length t) room g, texts_room texts le (omega (arith, leb-true w'.at room x)) (omega (arith, leb-true w'.odd room y))))
+      past g true false x y = refl
+      past g false b x y = refl
+
+      go : (b : Bool) → leb (length t) room ≡ b → Measured t k room w.out.now w'.out.now r
+      go true g =
+          let l : length t ≤ room = leb-true (length t) room g in
+          let f : (w'.at ≡ length t) × (w'.odd ≡ k) × (w'.out.now ≡ _) = texts_fit texts le (omega arith) in
+          record { result = z ∙ rw (g, f.0, f.1, le-leb (length t) room l, le-leb k room (omega arith)) refl; bytes = λ a b. texts_written texts le (omega arith) b }
+      go false g = record { result = z ∙ rw g (past g (leb w'.at room) (leb w'.odd room) refl refl); bytes = λ a b. absurd (omega (arith, leb-false (length t) room g)) }
+
+  -- measured, and too long
+  pub answers_none : {d d' : List ℕ} → Measured t k room d d' None → (o : List ℕ) → Answers (answer_with t k room) (Err Room) o o
   unfolding answer_with
-  answers_text h {o} {o'} {at} {n} r w =
-      let a : at₀ < room + 1 = ltb-true at₀ (room + 1) (and_left (ltb at₀ (room + 1)) _ h) in
-      let b : n₀ < room + 1 = ltb-true n₀ (room + 1) (and_right (ltb at₀ (room + 1)) _ h) in
-      let l : length t < room + 1 = texts_room m le a b in
-      let f : (at ≡ length t) × (n ≡ k) × (o' ≡ _) = texts_fit w le l in
-      rw (le-leb (length t) room (omega arith)) (record { number = refl; length = f.0; count = f.1; written = refl; bytes = texts_written w le l (omega arith) })
+  answers_none m o = go (leb (length t) room) m.result
+    where
+      go : (b : Bool) → ◌≡◌ {A = Option Text} None (cond b (Some (record { length = length t; count = k })) None) → Answers (cond b (record { number = 0; length = length t; count = k; text = t }) (refuse 11)) (Err Room) o o
+      go true e = absurd (let z : ◌≡◌ {A = ℕ} 0 1 = cc in omega arith)
+      go false e = record { number = refl; length = refl; count = refl; written = refl; bytes = refl }
+
+  -- measured, and it fits
+  fits : {x : Text} {d d' : List ℕ} → Measured t k room d d' (Some x) → (length t ≤ room) × (x.length ≡ length t) × (x.count ≡ k)
+  fits {x} m = go (leb (length t) room) refl m.result
+    where
+      go : (b : Bool) → leb (length t) room ≡ b → ◌≡◌ {A = Option Text} (Some x) (cond b (Some (record { length = length t; count = k })) None) → (length t ≤ room) × (x.length ≡ length t) × (x.count ≡ k)
+      go true g e = let q : x ≡ record { length = length t; count = k } = cc in (leb-true (length t) room g, ap (λ (y : Text). y.length) q, ap (λ (y : Text). y.count) q)
+      go false g e = absurd (let z : ◌≡◌ {A = ℕ} 0 1 = cc in omega arith)
+
+  text_given : {x : Text} {d d' o o' : List ℕ} → Measured t k room d d' (Some x) → o' ≡ t ++ drop (length t) o → Answers (answer_with t k room) (Ok x) o o'
+  unfolding answer_with
+  text_given m q = let f = fits m in rw (le-leb (length t) room f.0) (record { number = refl; length = f.1; count = f.2; written = refl; bytes = q })
+
+  -- then it is written
+  pub answers_text : {x : Text} {d d' o o' : List ℕ} {r : Option Text} → Measured t k room d d' (Some x) → room ≡ length o → Measured t k room o o' r → Answers (answer_with t k room) (Ok x) o o'
+  answers_text m e n = let f = fits m in text_given m (n.bytes f.0 (rw e at f.0))
 
   -- measured into a draft that has all of it: then it is put from there
-  pub answers_copied : below at₀ n₀ (room + 1) ≡ true → at₀ ≤ length o₀ → {o o' : List ℕ} {at : ℕ} → room ≡ length o → Puts (room + 1) (take (at₀ - 0) (drop 0 o₀')) o 0 o' at → Answers (answer_with t k room) (Text at₀ n₀) o o'
-  unfolding answer_with
-  answers_copied h g {o} {o'} {at} r w =
-      let l : length t < room + 1 = texts_room m le (ltb-true at₀ (room + 1) (and_left (ltb at₀ (room + 1)) _ h)) (ltb-true n₀ (room + 1) (and_right (ltb at₀ (room + 1)) _ h)) in
-      let f : (at₀ ≡ length t) × (n₀ ≡ k) × (o₀' ≡ _) = texts_fit m le l in
-      let z : at₀ - 0 ≡ length t = omega arith in
-      let d : take (at₀ - 0) o₀' ≡ t = rw (z, texts_written m le l (omega arith)) (take-append_seam t (drop (length t) o₀)) in
-      rw (le-leb (length t) room (omega arith)) (record { number = refl; length = f.0; count = f.1; written = refl; bytes = texts_written (texts_puts (rw d at w)) (omega arith) l (omega arith) })
+  pub answers_copied : {x : Text} {d d' o o' : List ℕ} → Measured t k room d d' (Some x) → x.length ≤ length d → o' ≡ take x.length d' ++ drop x.length o → Answers (answer_with t k room) (Ok x) o o'
+  answers_copied {x} {d} {d'} {o} m g q =
+      let f = fits m in
+      let c : take (length t) d' ≡ t = rw (m.bytes f.0 (rw f.1 at g)) (take-append_seam t (drop (length t) d)) in
+      text_given m (q ∙ rw (f.1, c) refl)
 
 -- the forms are those of the definition
 in_of : (f : Form) (room : ℕ) (o : Outcome) → uncounted (answer_in f room o) ≡ uncounted (answer_of (form_text f) room o)
@@ -129,31 +154,31 @@ terms_is plan room = counted Terms (λ p. refl) room (outcome plan)
 -- THE READER'S ANSWER
 
 module _ (f : Form) (s words rows tables : List ℕ) (room : ℕ) (o : List ℕ) where
-  pub answers_refused : (n : ℕ) → Says (outcome s) s (laid.Refused n) words rows tables → Answers (answer_in f room (outcome s)) (Refused n) o o
+  pub answers_refused : (r : Refusal) → Says (outcome s) s (Err r) words rows tables → Answers (answer_in f room (outcome s)) (Err r) o o
   unfolding Says answer_in
-  answers_refused n h = go (outcome s) refl h
+  answers_refused r h = go (outcome s) refl h
     where
-      go : (x : Outcome) → outcome s ≡ x → Says x s (laid.Refused n) words rows tables → Answers (answer_in f room x) (Refused n) o o
+      go : (x : Outcome) → outcome s ≡ x → Says x s (Err r) words rows tables → Answers (answer_in f room x) (Err r) o o
       go (refused m) e q = record { number = q; length = refl; count = refl; written = rw (ne_eqb m 0 (λ z. absurd (omega (arith, refused_number s m e)))) refl; bytes = refl }
       go (accepted p) e q = absurd q
 
-  -- the tables that are told are there
-  pub told_tables : (n j : ℕ) → Says (outcome s) s (laid.Held n j) words rows tables → j < length tables
+  -- the tables that are held are there
+  pub told_tables : (h : Laid) → Says (outcome s) s (Ok h) words rows tables → h.tables < length tables
   unfolding Says
-  told_tables n j h = go (outcome s) h
+  told_tables h i = go (outcome s) i
     where
-      go : (x : Outcome) → Says x s (laid.Held n j) words rows tables → j < length tables
+      go : (x : Outcome) → Says x s (Ok h) words rows tables → h.tables < length tables
       go (refused m) q = absurd q
       go (accepted p) q = q.held
 
-  pub answers_held : (n j : ℕ) {index : List ℕ} {r : Emitted} {o' : List ℕ} → Says (outcome s) s (laid.Held n j) words rows tables → Indexes (laid.Held n j) words rows tables index
-      → ((p : Plan) → Held p s words rows (take (j + 1) tables) index → Answers (answer_in f room (accepted p)) r o o') → Answers (answer_in f room (outcome s)) r o o'
+  pub answers_held : (h : Laid) {index : List ℕ} {r : Emitted} {o' : List ℕ} → Says (outcome s) s (Ok h) words rows tables → Indexes (Ok h) words rows tables index
+      → ((p : Plan) → Held p s words rows (take (h.tables + 1) tables) index → Answers (answer_in f room (accepted p)) r o o') → Answers (answer_in f room (outcome s)) r o o'
   unfolding Says Indexes
-  answers_held n j {index} {r} {o'} h i k = go (outcome s) refl h
+  answers_held h {index} {r} {o'} i v k = go (outcome s) refl i
     where
-      go : (x : Outcome) → outcome s ≡ x → Says x s (laid.Held n j) words rows tables → Answers (answer_in f room x) r o o'
+      go : (x : Outcome) → outcome s ≡ x → Says x s (Ok h) words rows tables → Answers (answer_in f room x) r o o'
       go (refused m) e q = absurd q
-      go (accepted p) e q = k p (record { accepts = e; is = sym (plan_is words rows tables n j q.index q.held s) ∙ q.is; indexed = i })
+      go (accepted p) e q = k p (record { accepts = e; is = sym (plan_is words rows tables h.rows h.tables q.index q.held s) ∙ q.is; indexed = v })
 
 -- THE ENVIRONMENT
 
@@ -164,3 +189,12 @@ holds_of {p} {plan} {words} {rows} {tables} h = record {
   indexed = h.indexed;
   others = (accepted_fits plan p h.accepts).others;
 }
+
+pub indexed_of : {p : Plan} {b : buffers.Plan} → HeldIn p b → VariantsIndexed b
+indexed_of {p} {b} h = record {
+  indexed = h.indexed;
+  others = λ n g. rw (← (holds_of h).is) ((accepted_fits b.bytes.now p h.accepts).others n g);
+}
+
+pub items_of : {p : Plan} {b : buffers.Plan} {w w' : Sink} → HeldIn p b → (VariantsIndexed b → Shows (plan_of b).env 0 (items (plan_of b)) w w') → Shows p.env 0 (items p) w w'
+items_of {p} {b} {w} {w'} h f = subst (λ (q : Plan). Shows q.env 0 (items q) w w') h.is (f (indexed_of h))

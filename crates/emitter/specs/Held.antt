@@ -11,6 +11,7 @@ use Rattle.view.specs.Tables.{plan_in}
 use Rattle.emitter.specs.declared.Form.{Form}
 use Rattle.emitter.specs.declared.Form.TheVariants.{Whole, Terms, Items}
 use Rattle.variants.specs.Index.{VariantIndex}
+use Rattle.view.specs.declared.buffers.Plan as buffers
 
 -- the text that is asked for, and how many of its literals are odd
 abbrev pub form_text : Form → Plan → List ℕ
@@ -40,3 +41,7 @@ pub record Held (p : Plan) (plan words rows tables index : List ℕ) : Type 0 wh
 -- a position and a count are below one more than the room
 abbrev pub below : ℕ → ℕ → ℕ → Bool
 below at n e = ltb at e && ltb n e
+
+-- the same of a plan's buffers as one value
+abbrev pub HeldIn : Plan → buffers.Plan → Type 0
+HeldIn p b = Held p b.bytes.now b.words.now b.rows.now b.tables.now b.index.now

@@ -1,5 +1,5 @@
 -- A text with its count, put into a buffer from its start: what fits is there, and what doesn't fit is seen not to. Assumes nothing.
-use Rattle.std.specs.Prelude.{ℕ, zero, suc, ◌+◌, ◌≤◌, ◌<◌, Bool, cond, ◌&&◌, List, [], ◌++◌, drop}
+use Rattle.std.specs.Prelude.{ℕ, zero, suc, ◌+◌, ◌≤◌, ◌<◌, Bool, cond, ◌&&◌, List, [], ◌++◌, drop, leb, Option, Some, None}
 use Rattle.std.proofs.Math.Path.{◌≡◌, refl, sym, ap}
 use Rattle.std.proofs.Common.{◌∙◌, append-nil, arith, zero-add, add-zero, add_assoc, length-append}
 use Rattle.std.proofs.Math.Bool.{true, false}
@@ -13,6 +13,8 @@ use Rattle.codegen.specs.Block.{Part, text_of, odds_of}
 use Rattle.plan.specs.Plan.{Environment}
 use Rattle.emits.specs.Place.{Place, over, here, place, place_here, place_over, count_over, place_cases}
 use Rattle.emits.specs.Rows.{PartsEmit, run_parts}
+use Rattle.text.specs.declared.sink.Sink.{Sink}
+use Rattle.emitter.specs.declared.Text.{Text}
 
 -- a text of which k literals are odd
 unfoldable pub run_text : ℕ → List ℕ → ℕ → Place (Unit {0}) → Place (Unit {0})
@@ -86,3 +88,21 @@ module _ {e : ℕ} {t : List ℕ} {k : ℕ} {o : List ℕ} {o' : List ℕ} {at' 
   -- where the buffer has room for it, the text stands there, and the bytes after it are unchanged
   pub texts_written : length t < e → length t ≤ length o → o' ≡ t ++ drop (length t) o
   texts_written h g = (texts_fit h).2 ∙ (let z : 0 + length t ≡ length t = zero-add (length t) in rw z at (sets-eq t o 0 (omega arith)))
+
+-- OF A SINK
+
+-- nothing is put yet
+pub record Starts (w : Sink) : Type 0 where
+  pub at : w.at ≡ 0
+  pub odd : w.odd ≡ 0
+
+-- the text t, of which k literals are odd; the lent buffer and the room are the same
+pub record WritesText (t : List ℕ) (k : ℕ) (w w' : Sink) : Type 0 where
+  pub buffer : w'.out.ghost_name ≡ w.out.ghost_name
+  pub end : w'.end ≡ w.end
+  pub texts : Texts w.end t k w.out.now w.at w.odd w'.out.now w'.at w'.odd
+
+-- a text that was put from a buffer's start: its length and count, where it fits the room, and then, where it fits the buffer too, it stands there
+pub record Measured (t : List ℕ) (k room : ℕ) (o o' : List ℕ) (r : Option Text) : Type 0 where
+  pub result : r ≡ cond (leb (length t) room) (Some (record { length = length t; count = k })) None
+  pub bytes : length t ≤ room → length t ≤ length o → o' ≡ t ++ drop (length t) o

@@ -5,8 +5,10 @@ ghost use Rattle.std.proofs.lemmas.List.Edits.{sets};
 ghost use Rattle.codegen.specs.Answer.{answer, terms_answer};
 ghost use Rattle.emitter.specs.Answered.{number_of, length_of, count_of, items_answer, Exports};
 
-use super::Emitted;
+use super::Text;
+use refusal::Refusal;
 
+// The first two entries, as far as there are any. By `get_mut`, which would be shorter, no proof is found.
 fn set_pair(told: &mut [usize], first: usize, second: usize)
     ensures { told.new ≡ sets told.old 0 (first ∷ second ∷ []) }
 {
@@ -21,17 +23,17 @@ fn set_pair(told: &mut [usize], first: usize, second: usize)
     told[1] = second;
 }
 
-fn tell(r: Emitted, told: &mut [usize]) -> u32
+fn tell(r: Result<Text, Refusal>, told: &mut [usize]) -> u32
     ensures { (result ≡ number_of r) × (told.new ≡ sets told.old 0 (length_of r ∷ count_of r ∷ [])) }
 {
     match r {
-        Emitted::Refused { number } => {
-            set_pair(told, 0, 0);
-            number
-        }
-        Emitted::Text { length, count } => {
-            set_pair(told, length, count);
+        Ok(text) => {
+            set_pair(told, text.length, text.count);
             0
+        }
+        Err(refusal) => {
+            set_pair(told, 0, 0);
+            refusal.number()
         }
     }
 }

@@ -5,75 +5,84 @@
 pub mod exports;
 pub mod reading;
 
-ghost use Rattle.std.specs.Prelude.{◌≡◌, ◌+◌, ◌≤◌, ◌<◌, length, take};
-ghost use Rattle.plan.specs.Plan.{Plan};
-ghost use Rattle.plan.specs.Refusal.{Outcome, accepted, outcome};
+ghost use Rattle.std.specs.Prelude.{◌≡◌, ◌+◌, ◌≤◌, ◌<◌, length, IfSome};
+ghost use Rattle.plan.specs.Plan as definition;
+ghost use Rattle.plan.specs.Refusal.{accepted, outcome};
 ghost use Rattle.codegen.specs.Answer.{answer, terms_answer};
-ghost use Rattle.reader.specs.Reading.{Room};
+ghost use Rattle.reader.specs.Reading.{Enough, Room};
 ghost use Rattle.emitter.specs.Answered.{Answers, items_answer};
-ghost use Rattle.emitter.specs.Held.{Held, form_text, form_count, answer_in, below};
-ghost use Rattle.emitter.specs.Texts.{Texts};
+ghost use Rattle.emitter.specs.Held.{HeldIn, form_text, form_count, answer_in};
+ghost use Rattle.emitter.specs.Texts.{Starts, WritesText, Measured};
 
-use emits::Written;
-use reader::Laid;
-use text::sink::put_part;
+use layout::{Buffers, Filled};
+use refusal::Refusal;
+use text::sink::Sink;
+use view::buffers::Plan;
 
-#[derive(Clone, Copy)]
-pub enum Emitted {
-    // Document 01's number, 1 to 11. Nothing is written.
-    Refused { number: u32 },
-    // The text is written: its length, and how many of its literals are odd.
-    Text { length: usize, count: usize },
+// A text that is written: its length, and how many of its literals are odd.
+#[derive(Clone, Copy, Debug, PartialEq, Eq)]
+pub struct Text {
+    pub length: usize,
+    pub count: usize,
 }
 
 // Which text is asked for: all of it, the generated terms alone, or what stands before them.
-#[derive(Clone, Copy)]
+#[derive(Clone, Copy, Debug, PartialEq, Eq)]
 pub enum Form {
     Whole,
     Terms,
     Items,
 }
 
+// The text of the generated terms.
+fn put_terms(w: &mut Sink<'_>, plan: &Plan<'_>)
+    ensures { (p : definition.Plan) → HeldIn p plan.now → WritesText (form_text Form.Terms p) (form_count Form.Terms p) w.old w.new }
+{
+    let written = emit_terms::term::generate_internal_term_constructors(
+        w.out,
+        w.end,
+        w.at,
+        w.odd,
+        plan.bytes,
+        plan.words,
+        plan.rows,
+        plan.tables,
+        plan.index,
+    );
+    w.at = written.at;
+    w.odd = written.odd;
+}
+
 // `generate_rust` of codegen.rs 176, or a part of it.
-fn put_text(
-    out: &mut [u8],
-    end: usize,
-    form: Form,
-    plan: &[u8],
-    words: &[u32],
-    rows: &[u32],
-    tables: &[u32],
-    index: &[u32],
-) -> Written
-    ensures { (p : Plan) → Held p plan.now words.now rows.now tables.now index.now → Texts end (form_text form p) (form_count form p) out.old 0 0 out.new result.at result.odd }
+fn put_text(w: &mut Sink<'_>, form: Form, plan: &Plan<'_>)
+    ensures { (p : definition.Plan) → HeldIn p plan.now → Starts w.old → WritesText (form_text form p) (form_count form p) w.old w.new }
 {
     match form {
         Form::Whole => {
-            let at = emit_items::items(out, 0, end, plan, words, rows, tables, index);
-            emit_terms::term::generate_internal_term_constructors(
-                out, end, at, 0, plan, words, rows, tables, index,
-            )
+            emit_items::items(w, plan);
+            put_terms(w, plan);
         }
-        Form::Terms => {
-            emit_terms::term::generate_internal_term_constructors(
-                out, end, 0, 0, plan, words, rows, tables, index,
-            )
-        }
-        Form::Items => {
-            let at = emit_items::items(out, 0, end, plan, words, rows, tables, index);
-            Written { at, odd: 0 }
-        }
+        Form::Terms => put_terms(w, plan),
+        Form::Items => emit_items::items(w, plan),
     }
 }
 
-// Whether a text that leads to this place fits.
-fn fits(w: Written, end: usize) -> bool
-    ensures { result ≡ below w.at w.odd end }
+// Puts the text into a buffer from its start: its length and count, where it fits the room.
+fn put_measured(out: &mut [u8], room: usize, form: Form, plan: &Plan<'_>) -> Option<Text>
+    requires { room < 18446744073709551615 }
+    ensures within { IfSome result (λ t. t.length ≤ room) }
+    ensures measured { (p : definition.Plan) → HeldIn p plan.now → Measured (form_text form p) (form_count form p) room out.old out.new result }
 {
-    if end <= w.at {
-        return false;
+    let mut w = Sink::new(out, room + 1);
+    put_text(&mut w, form, plan);
+    let (length, count) = (w.at, w.odd);
+    if room < length {
+        return None;
     }
-    w.odd < end
+    if room < count {
+        return None;
+    }
+    Some(Text { length, count })
 }
 
 // The answer for a plan that is accepted. The text is measured as it is put into a draft; where the draft has all of it, it is
@@ -81,51 +90,21 @@ fn fits(w: Written, end: usize) -> bool
 fn answer_held(
     out: &mut [u8],
     form: Form,
-    plan: &[u8],
-    words: &[u32],
-    rows: &[u32],
-    tables: &[u32],
-    index: &[u32],
+    plan: &Plan<'_>,
     draft: &mut [u8],
-) -> Emitted
-    ensures { (p : Plan) → Held p plan.now words.now rows.now tables.now index.now → Answers (answer_in form (length out.old) (accepted p)) result out.old out.new }
+) -> Result<Text, Refusal>
+    ensures { (p : definition.Plan) → HeldIn p plan.now → Answers (answer_in form (length out.old) (accepted p)) result out.old out.new }
 {
-    let end = out.len() + 1;
-    let m = put_text(draft, end, form, plan, words, rows, tables, index);
-    if !fits(m, end) {
-        return Emitted::Refused { number: 11 };
+    let room = out.len();
+    let Some(text) = put_measured(draft, room, form, plan) else {
+        return Err(Refusal::Room);
+    };
+    if text.length <= draft.len() {
+        out[..text.length].copy_from_slice(&draft[..text.length]);
+    } else {
+        let _ = put_measured(out, room, form, plan);
     }
-    if m.at <= draft.len() {
-        put_part(out, 0, end, draft, 0, m.at);
-        return Emitted::Text {
-            length: m.at,
-            count: m.odd,
-        };
-    }
-    let w = put_text(out, end, form, plan, words, rows, tables, index);
-    Emitted::Text {
-        length: w.at,
-        count: w.odd,
-    }
-}
-
-// The same for j of the reader's tables.
-fn answer_tables(
-    out: &mut [u8],
-    form: Form,
-    plan: &[u8],
-    words: &[u32],
-    rows: &[u32],
-    tables: &[u32],
-    index: &[u32],
-    draft: &mut [u8],
-    j: usize,
-) -> Emitted
-    requires { j < length tables.now }
-    ensures { (p : Plan) → Held p plan.now words.now rows.now (take (j + 1) tables.now) index.now → Answers (answer_in form (length out.old) (accepted p)) result out.old out.new }
-{
-    let end = j + 1;
-    answer_held(out, form, plan, words, rows, &tables[..end], index, draft)
+    Ok(text)
 }
 
 // The answer for any bytes, with buffers that are long enough for them. The draft serves the reader before it has the text.
@@ -133,183 +112,97 @@ fn answer_read(
     plan: &[u8],
     out: &mut [u8],
     form: Form,
-    words: &mut [u32],
-    rows: &mut [u32],
-    tables: &mut [u32],
-    index: &mut [u32; 1281],
+    buffers: &mut Buffers<'_>,
     draft: &mut [u8],
-) -> Emitted
-    requires { Room plan.now words.old rows.old tables.old draft.old }
+) -> Result<Text, Refusal>
+    requires { Room plan.now buffers.old.words.now buffers.old.rows.now buffers.old.tables.now draft.old }
     ensures { Answers (answer_in form (length out.old) (outcome plan.now)) result out.old out.new }
 {
-    let r = refusals::read_into(plan, words, rows, tables, draft, index);
-    match r {
-        Laid::Refused(number) => Emitted::Refused { number },
-        Laid::Held(_rows, j) => {
-            answer_tables(out, form, plan, words, rows, tables, index, draft, j)
-        }
-    }
+    let mut index = [0u32; 1281];
+    let held = refusals::read_into(plan, buffers, draft, &mut index)?;
+    let unindexed = reader::plan_held(plan, buffers, held.tables);
+    let plan = Plan {
+        index: &index,
+        ..unindexed
+    };
+    answer_held(out, form, &plan, draft)
 }
 
-// The buffers for a plan of up to 512 bytes.
-fn answer_up_to_512(plan: &[u8], out: &mut [u8], form: Form) -> Emitted
-    requires { length plan.now ≤ 512 }
+// The answer with buffers of these lengths, which are long enough for the plan.
+fn answer_with<const WORDS: usize, const ROWS: usize, const TABLES: usize, const DRAFT: usize>(
+    plan: &[u8],
+    out: &mut [u8],
+    form: Form,
+) -> Result<Text, Refusal>
+    requires enough { Enough (length plan.now) WORDS ROWS TABLES DRAFT }
+    requires few { (WORDS ≤ 262144) × (ROWS ≤ 262144) × (TABLES ≤ 262144) × (DRAFT ≤ 262144) }
     ensures { Answers (answer_in form (length out.old) (outcome plan.now)) result out.old out.new }
 {
-    let mut words = [0u32; 512];
-    let mut rows = [0u32; 257];
-    let mut tables = [0u32; 129];
-    let mut index = [0u32; 1281];
-    let mut draft = [0u8; 4096];
-    answer_read(
-        plan,
-        out,
-        form,
-        &mut words,
-        &mut rows,
-        &mut tables,
-        &mut index,
-        &mut draft,
-    )
-}
-
-// Of up to 2,048.
-fn answer_up_to_2048(plan: &[u8], out: &mut [u8], form: Form) -> Emitted
-    requires { length plan.now ≤ 2048 }
-    ensures { Answers (answer_in form (length out.old) (outcome plan.now)) result out.old out.new }
-{
-    let mut words = [0u32; 2048];
-    let mut rows = [0u32; 1025];
-    let mut tables = [0u32; 513];
-    let mut index = [0u32; 1281];
-    let mut draft = [0u8; 16384];
-    answer_read(
-        plan,
-        out,
-        form,
-        &mut words,
-        &mut rows,
-        &mut tables,
-        &mut index,
-        &mut draft,
-    )
-}
-
-// Of up to 8,192.
-fn answer_up_to_8192(plan: &[u8], out: &mut [u8], form: Form) -> Emitted
-    requires { length plan.now ≤ 8192 }
-    ensures { Answers (answer_in form (length out.old) (outcome plan.now)) result out.old out.new }
-{
-    let mut words = [0u32; 8192];
-    let mut rows = [0u32; 4097];
-    let mut tables = [0u32; 2049];
-    let mut index = [0u32; 1281];
-    let mut draft = [0u8; 65536];
-    answer_read(
-        plan,
-        out,
-        form,
-        &mut words,
-        &mut rows,
-        &mut tables,
-        &mut index,
-        &mut draft,
-    )
-}
-
-// Of up to 32,768.
-fn answer_up_to_32768(plan: &[u8], out: &mut [u8], form: Form) -> Emitted
-    requires { length plan.now ≤ 32768 }
-    ensures { Answers (answer_in form (length out.old) (outcome plan.now)) result out.old out.new }
-{
-    let mut words = [0u32; 32768];
-    let mut rows = [0u32; 16385];
-    let mut tables = [0u32; 8193];
-    let mut index = [0u32; 1281];
-    let mut draft = [0u8; 131072];
-    answer_read(
-        plan,
-        out,
-        form,
-        &mut words,
-        &mut rows,
-        &mut tables,
-        &mut index,
-        &mut draft,
-    )
-}
-
-// Of any length. The draft is no longer than leaves nested expressions their stack in a mebibyte.
-fn answer_any(plan: &[u8], out: &mut [u8], form: Form) -> Emitted
-    ensures { Answers (answer_in form (length out.old) (outcome plan.now)) result out.old out.new }
-{
-    let mut words = [0u32; 65536];
-    let mut rows = [0u32; 32769];
-    let mut tables = [0u32; 16385];
-    let mut index = [0u32; 1281];
-    let mut draft = [0u8; 143360];
-    answer_read(
-        plan,
-        out,
-        form,
-        &mut words,
-        &mut rows,
-        &mut tables,
-        &mut index,
-        &mut draft,
-    )
+    let mut words = [0u32; WORDS];
+    let mut rows = [0u32; ROWS];
+    let mut tables = [0u32; TABLES];
+    let mut draft = [0u8; DRAFT];
+    let mut buffers = Buffers {
+        words: &mut words,
+        rows: &mut rows,
+        tables: &mut tables,
+        filled: Filled::default(),
+    };
+    answer_read(plan, out, form, &mut buffers, &mut draft)
 }
 
 // Buffers that are long enough for each plan take longer to clear than a small plan to answer. Short and long plans have a function
 // each, which all entries call: so neither is compiled into them, and a short plan touches no stack that long buffers take.
-fn answer_short(plan: &[u8], out: &mut [u8], form: Form) -> Emitted
+fn answer_short(plan: &[u8], out: &mut [u8], form: Form) -> Result<Text, Refusal>
     requires { length plan.now ≤ 2048 }
     ensures { Answers (answer_in form (length out.old) (outcome plan.now)) result out.old out.new }
 {
     if plan.len() <= 512 {
-        return answer_up_to_512(plan, out, form);
+        return answer_with::<512, 257, 129, 4096>(plan, out, form);
     }
-    answer_up_to_2048(plan, out, form)
+    answer_with::<2048, 1025, 513, 16384>(plan, out, form)
 }
 
-fn answer_long(plan: &[u8], out: &mut [u8], form: Form) -> Emitted
+fn answer_long(plan: &[u8], out: &mut [u8], form: Form) -> Result<Text, Refusal>
     ensures { Answers (answer_in form (length out.old) (outcome plan.now)) result out.old out.new }
 {
     if plan.len() <= 8192 {
-        return answer_up_to_8192(plan, out, form);
+        return answer_with::<8192, 4097, 2049, 65536>(plan, out, form);
     }
     if plan.len() <= 32768 {
-        return answer_up_to_32768(plan, out, form);
+        return answer_with::<32768, 16385, 8193, 131072>(plan, out, form);
     }
-    answer_any(plan, out, form)
+    // The draft is no longer than leaves nested expressions their stack in a mebibyte.
+    answer_with::<65536, 32769, 16385, 143360>(plan, out, form)
+}
+
+// The answer in a form.
+fn answer_form(plan: &[u8], out: &mut [u8], form: Form) -> Result<Text, Refusal>
+    ensures { Answers (answer_in form (length out.old) (outcome plan.now)) result out.old out.new }
+{
+    if plan.len() <= 2048 {
+        return answer_short(plan, out, form);
+    }
+    answer_long(plan, out, form)
 }
 
 // The whole module of a plan.
-pub fn emit(plan: &[u8], out: &mut [u8]) -> Emitted
+pub fn emit(plan: &[u8], out: &mut [u8]) -> Result<Text, Refusal>
     ensures { Answers (answer plan.now (length out.old)) result out.old out.new }
 {
-    if plan.len() <= 2048 {
-        return answer_short(plan, out, Form::Whole);
-    }
-    answer_long(plan, out, Form::Whole)
+    answer_form(plan, out, Form::Whole)
 }
 
 // The text of a plan's generated terms alone.
-pub fn emit_terms(plan: &[u8], out: &mut [u8]) -> Emitted
+pub fn emit_terms(plan: &[u8], out: &mut [u8]) -> Result<Text, Refusal>
     ensures { Answers (terms_answer plan.now (length out.old)) result out.old out.new }
 {
-    if plan.len() <= 2048 {
-        return answer_short(plan, out, Form::Terms);
-    }
-    answer_long(plan, out, Form::Terms)
+    answer_form(plan, out, Form::Terms)
 }
 
 // What stands before the terms: header, trait and types.
-pub fn emit_items(plan: &[u8], out: &mut [u8]) -> Emitted
+pub fn emit_items(plan: &[u8], out: &mut [u8]) -> Result<Text, Refusal>
     ensures { Answers (items_answer plan.now (length out.old)) result out.old out.new }
 {
-    if plan.len() <= 2048 {
-        return answer_short(plan, out, Form::Items);
-    }
-    answer_long(plan, out, Form::Items)
+    answer_form(plan, out, Form::Items)
 }

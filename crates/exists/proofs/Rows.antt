@@ -1,29 +1,20 @@
 -- Refusals 5 and 6 from rows to generated terms. Assumes nothing.
-use Prim.Native.Nat.{ℕ, suc, ◌+◌}
-use mathlib.Core.Path.{◌≡◌, refl, ap, ◌∙◌}
+use Prim.Native.Nat.{ℕ, suc}
+use mathlib.Core.Path.{◌≡◌, refl, sym, ap, ◌∙◌}
 use mathlib.Core.Bool.{Bool, true, false, ◌&&◌}
 use mathlib.Core.List.{List, [], ◌∷◌, map}
 use lib.Dec.{eqb, ltb}
 use lib.ListN.{length, get_or, drop, length-map}
 use Rattle.literal.specs.BuiltinType.{all}
-use Rattle.plan.specs.Plan.{Environment, Generated}
+use Rattle.plan.specs.Plan.{Environment}
 use Rattle.plan.specs.Layout.{builtins}
-use Rattle.plan.specs.Refusal.{every, bound_below, type_refers, variant_refers, term_refers, constructor_exists, binding_refers, constraint_refers, control_flow_refers, row_refers, generated_refers, all_exist, source_count, pattern_count, arm_length_fits, lengths_fit}
+use Rattle.plan.specs.Refusal.{every, type_refers, variant_refers, term_refers, constructor_exists, row_refers, generated_refers, all_exist, pattern_count, arm_length_fits, lengths_fit}
 use Rattle.rows.specs.View.{nth, type_of, variant_of, term_of, patterns_in, binding_of, block_of}
-use Rattle.view.specs.Tables.{table_rows, environment_in, generated_at, generated_from, plan_in}
-use Rattle.view.specs.Told.{control_flow_of, constraint_of}
-use Rattle.view.proofs.Plans.{generated_is, environment_is, types_are, variants_are, terms_are, term_is}
+use Rattle.view.specs.Tables.{table_rows, environment_in, plan_in}
+use Rattle.view.specs.Told.{constraint_of}
+use Rattle.view.proofs.Plans.{environment_is, types_are, variants_are, terms_are, term_is}
+use Rattle.exists.specs.Ready.{binding_row_refers, binding_length_fits, generated_fits}
 use Rattle.checks.proofs.Every.{every_map, every_append}
-use Rattle.exists.specs.Ready.{row_exists, row_fits}
-
-module _ (e : Environment) (n : ℕ) (ws : List ℕ) where
-  pub step_refers : ltb (nth ws 1) 4 ≡ true → (control_flow_refers e n (control_flow_of ws) && every (λ q. ltb q n) (drop 7 ws)) ≡ row_refers e n (block_of ws)
-  unfolding block_of row_refers
-  step_refers h = rw h refl
-
-  pub arm_refers : ltb (nth ws 1) 4 ≡ false → (constraint_refers e (constraint_of ws) && every (bound_below n) (patterns_in (drop 7 ws))) ≡ row_refers e n (block_of ws)
-  unfolding block_of row_refers
-  arm_refers h = rw h refl
 
 module _ (e : Environment) (ws : List ℕ) where
   pub step_length : ltb (nth ws 1) 4 ≡ true → true ≡ arm_length_fits e (block_of ws)
@@ -48,26 +39,29 @@ module _ (plan words rows tables : List ℕ) where
   abbrev pub rows_of : ℕ → List (List ℕ)
   rows_of t = table_rows words rows tables t
 
-  pub generated_tests : (t b k : ℕ) → b ≡ t + 1 → k ≡ t + 2 → (m args n : ℕ) → m ≡ nth (get_or (rows_of t) 0 []) 0 → args ≡ length (term_of (get_or (rows_of 6) m [])).arg_tys → n ≡ length (rows_of b)
-      → (constructor_exists e m && (every (λ ws. binding_refers e args (binding_of ws).binding && every (λ q. ltb q n) (binding_of ws).sources) (rows_of b) && every (λ ws. row_refers e n (block_of ws)) (rows_of k)))
-      ≡ generated_refers e (generated_at words rows tables t)
-  unfolding generated_refers generated_at
-  generated_tests t b k pb pk m args n pm pa pn =
+  -- a generated term, its bindings and its block in three tables
+  pub generated_tests : (t b k : ℕ) → generated_refers e (record { term = nth (get_or (rows_of t) 0 []) 0; bindings = map binding_of (rows_of b); rows = map block_of (rows_of k) })
+      ≡ (let m = nth (get_or (rows_of t) 0 []) 0 in let args = length (drop 8 (get_or (rows_of 6) m [])) in let n = length (rows_of b) in
+      constructor_exists e m && (every (λ ws. binding_row_refers e args n (binding_of ws)) (rows_of b) && every (λ ws. row_refers e n (block_of ws)) (rows_of k)))
+  unfolding generated_refers term_of
+  generated_tests t b k =
+      let m = nth (get_or (rows_of t) 0 []) 0 in
       rw (
-        pa,
-        pm,
-        pn,
-        pb,
-        pk,
-        length-map (rows_of (t + 1)) binding_of,
-        term_is words rows tables plan (nth (get_or (rows_of t) 0 []) 0),
-        every_map (λ b. binding_refers e (length (term_of (get_or (rows_of 6) (nth (get_or (rows_of t) 0 []) 0) [])).arg_tys) b.binding && every (λ q. ltb q (length (rows_of (t + 1)))) b.sources) binding_of (rows_of (t + 1)),
-        every_map (row_refers e (length (rows_of (t + 1)))) block_of (rows_of (t + 2)),
+        length-map (rows_of b) binding_of,
+        term_is words rows tables plan m,
+        every_map (binding_row_refers e (length (drop 8 (get_or (rows_of 6) m []))) (length (rows_of b))) binding_of (rows_of b),
+        every_map (row_refers e (length (rows_of b))) block_of (rows_of k),
       ) refl
 
-  pub exist_tests : (every (row_exists e 4) (rows_of 4) && (every (row_exists e 5) (rows_of 5) && (every (row_exists e 6) (rows_of 6) && every (generated_refers e) (plan_in plan words rows tables).generated)))
-      ≡ all_exist (plan_in plan words rows tables)
-  unfolding all_exist row_exists
+  pub generated_rest : (t b k m args n : ℕ) → m ≡ nth (get_or (rows_of t) 0 []) 0 → args ≡ length (drop 8 (get_or (rows_of 6) m [])) → n ≡ length (rows_of b)
+      → generated_refers e (record { term = nth (get_or (rows_of t) 0 []) 0; bindings = map binding_of (rows_of b); rows = map block_of (rows_of k) })
+      ≡ (constructor_exists e m && (every (λ ws. binding_row_refers e args n (binding_of ws)) (rows_of b) && every (λ ws. row_refers e n (block_of ws)) (rows_of k)))
+  generated_rest t b k m args n pm pa pn = rw (pa, pm, pn) (generated_tests t b k)
+
+  pub exist_tests : all_exist (plan_in plan words rows tables)
+      ≡ (every (λ ws. type_refers e (type_of ws)) (rows_of 4) && (every (λ ws. variant_refers e (variant_of ws)) (rows_of 5) && (every (λ ws. term_refers e (term_of ws)) (rows_of 6)
+      && every (generated_refers e) (plan_in plan words rows tables).generated)))
+  unfolding all_exist
   exist_tests = rw (environment_is words rows tables plan) (rw (types, variants, terms) refl) where
     types : every (type_refers e) e.types ≡ every (λ ws. type_refers e (type_of ws)) (rows_of 4)
     types = ap (every (type_refers e)) (types_are words rows tables plan) ∙ every_append (type_refers e) (builtins all) (map type_of (rows_of 4)) ∙ rw (builtins_refer e) (every_map (type_refers e) type_of (rows_of 4))
@@ -78,13 +72,20 @@ module _ (plan words rows tables : List ℕ) where
     terms : every (term_refers e) e.terms ≡ every (λ ws. term_refers e (term_of ws)) (rows_of 6)
     terms = ap (every (term_refers e)) (terms_are words rows tables plan) ∙ every_map (term_refers e) term_of (rows_of 6)
 
-  abbrev pub lengths_right : Generated → Bool
-  lengths_right g = every (λ b. eqb (length b.sources) (source_count e b.binding)) g.bindings && every (arm_length_fits e) g.rows
+  abbrev fits : ℕ → ℕ → Bool
+  fits b k = generated_fits e (record { term = 0; bindings = map binding_of (rows_of b); rows = map block_of (rows_of k) })
 
-  pub lengths_at : (t : ℕ) → (every (row_fits e 8) (rows_of (t + 1)) && every (row_fits e 9) (rows_of (t + 2))) ≡ lengths_right (generated_at words rows tables t)
-  unfolding generated_at row_fits
-  lengths_at t = rw (every_map (λ b. eqb (length b.sources) (source_count e b.binding)) binding_of (rows_of (t + 1)), every_map (arm_length_fits e) block_of (rows_of (t + 2))) refl
+  fits_tests : (b k : ℕ) → fits b k
+      ≡ (every (λ ws. binding_length_fits e (binding_of ws)) (rows_of b) && every (λ ws. arm_length_fits e (block_of ws)) (rows_of k))
+  fits_tests b k = rw (every_map (binding_length_fits e) binding_of (rows_of b), every_map (arm_length_fits e) block_of (rows_of k)) refl
 
-  pub lengths_plan : every lengths_right (generated_from words rows tables 7) ≡ lengths_fit (plan_in plan words rows tables)
+  pub fits_both : (b k : ℕ) (r : Bool) → true ≡ every (λ ws. binding_length_fits e (binding_of ws)) (rows_of b)
+      → r ≡ every (λ ws. arm_length_fits e (block_of ws)) (rows_of k) → r ≡ fits b k
+  fits_both b k r p q = q ∙ sym (fits_tests b k ∙ rw (← p) refl)
+
+  pub fits_first : (b k : ℕ) → false ≡ every (λ ws. binding_length_fits e (binding_of ws)) (rows_of b) → false ≡ fits b k
+  fits_first b k p = sym (fits_tests b k ∙ rw (← p) refl)
+
+  pub fits_plan : lengths_fit (plan_in plan words rows tables) ≡ every (generated_fits e) (plan_in plan words rows tables).generated
   unfolding lengths_fit
-  lengths_plan = rw (environment_is words rows tables plan, generated_is words rows tables plan) refl
+  fits_plan = rw (environment_is words rows tables plan) refl

@@ -1,6 +1,7 @@
 -- Which types exist, and their sorts and variants. Assumes nothing.
 use Prim.Native.Nat.{ℕ, suc, ◌+◌, ◌-◌, ◌≤◌, ◌<◌}
 use mathlib.Core.Path.{◌≡◌, refl, sym, ap, ◌∙◌}
+use mathlib.Core.Logic.{inl, inr}
 use mathlib.Core.Bool.{Bool, true, false, ◌&&◌}
 use mathlib.Core.List.{List, [], map}
 use native.Mathlib.Omega.{arith}
@@ -8,20 +9,50 @@ use lib.Dec.{ltb}
 use lib.ListN.{length, get_or, get_or-eq_default}
 use borrow.Author.Tests.{eq-eqb, ne_eqb, lt-ltb, le-ltb, ltb-true}
 use Rattle.literal.specs.declared.builtin_type.BuiltinType.TheVariants as builtin
-use Rattle.plan.specs.Plan.{Environment, Builtin, unit, Variant}
+use Rattle.plan.specs.Plan.{Environment, TypeData, Builtin, unit, Variant}
 use Rattle.plan.specs.Lookup.{type_at, variants_of, variant_at, fields_of, field_count}
-use Rattle.plan.specs.Refusal.{is_enum, enum_exists, struct_exists}
+use Rattle.plan.specs.Refusal.{type_exists, is_enum, is_struct, enum_exists, struct_exists}
 use Rattle.rows.specs.View.{nth, type_of, variant_of}
 use Rattle.layout.specs.View.{cut, cuts}
 use Rattle.view.specs.Tables.{table_rows, environment_in}
 use Rattle.view.proofs.Laws.{table_length, cuts_next, cuts_none}
 use Rattle.view.proofs.Plans.{types_count, builtin_is, type_is, variants_are}
 use Rattle.variants.proofs.Variants.{numbers_count, number_at}
-use Rattle.exists.specs.Ready.{Ready}
+use Rattle.exists.specs.Ready.{Ready, Undeclared}
 
 and_false : (a : Bool) → false ≡ (a && false)
 and_false true = refl
 and_false false = refl
+
+pub enum_found : (e : Environment) (n : ℕ) (t : TypeData) → type_exists e n ≡ true → type_at e n ≡ t → enum_exists e n ≡ is_enum t
+enum_found e n t h q = rw (h, q) refl
+
+pub struct_found : (e : Environment) (n : ℕ) (t : TypeData) → type_exists e n ≡ true → type_at e n ≡ t → struct_exists e n ≡ is_struct t
+struct_found e n t h q = rw (h, q) refl
+
+-- how many fields the variant k of type n has in a list of variants
+abbrev nothing : Variant
+nothing = record { ty = 0; name = 0; fields = unit }
+
+abbrev pub count_at : ℕ → List Variant → ℕ → ℕ
+count_at n vs k = field_count (get_or (variants_of n vs) k nothing).fields
+
+module _ (words rows : List ℕ) (n r m k : ℕ) where
+  pub count_other : r < m → (nth (cut words rows r) 0 ≡ n → ⊥) → count_at n (map variant_of (cuts words rows r (m - r))) k ≡ count_at n (map variant_of (cuts words rows (r + 1) (m - (r + 1)))) k
+  unfolding variants_of variant_of
+  count_other h q = rw (cuts_next words rows r m h, ne_eqb _ n q) refl
+
+  pub count_same : r < m → nth (cut words rows r) 0 ≡ n → k ≡ 0 → field_count (variant_of (cut words rows r)).fields ≡ count_at n (map variant_of (cuts words rows r (m - r))) k
+  unfolding variants_of variant_of
+  count_same h q z = rw (cuts_next words rows r m h, eq-eqb _ n q, z) refl
+
+  pub count_later : r < m → nth (cut words rows r) 0 ≡ n → (j : ℕ) → k ≡ suc j → count_at n (map variant_of (cuts words rows r (m - r))) k ≡ count_at n (map variant_of (cuts words rows (r + 1) (m - (r + 1)))) j
+  unfolding variants_of variant_of
+  count_later h q j z = rw (cuts_next words rows r m h, eq-eqb _ n q, z) refl
+
+  pub count_end : m ≤ r → 0 ≡ count_at n (map variant_of (cuts words rows r (m - r))) k
+  unfolding variants_of
+  count_end h = rw (cuts_none words rows r m h) refl
 
 module _ (plan words rows tables : List ℕ) (n : ℕ) where
   abbrev e : Environment
@@ -30,27 +61,23 @@ module _ (plan words rows tables : List ℕ) (n : ℕ) where
   abbrev row_words : List ℕ
   row_words = get_or (table_rows words rows tables 4) (n - 13) []
 
-  pub sort_builtin : n < 13 → (false ≡ enum_exists e n) × (false ≡ struct_exists e n)
-  sort_builtin h = rw (builtin_is words rows tables plan n h) (and_false (ltb n (length e.types)), and_false (ltb n (length e.types)))
+  -- a type that the plan declares has a row
+  pub type_found : 13 ≤ n → n - 13 < length (table_rows words rows tables 4) → (ws : List ℕ) → ws ≡ row_words → (type_exists e n ≡ true) × (type_at e n ≡ type_of ws)
+  type_found h g ws q = (lt-ltb n (length e.types) (omega (arith, types_count words rows tables plan)), type_is words rows tables plan n h g ∙ ap type_of (sym q))
 
-  pub sort_past : 13 ≤ n → length (table_rows words rows tables 4) ≤ n - 13 → (false ≡ enum_exists e n) × (false ≡ struct_exists e n)
-  sort_past h g = rw (le-ltb n (length e.types) (omega (arith, types_count words rows tables plan))) (refl, refl)
+  pub type_past : 13 ≤ n → length (table_rows words rows tables 4) ≤ n - 13 → length e.types ≤ n
+  type_past h g = omega (arith, types_count words rows tables plan)
 
-  module _ (h : 13 ≤ n) (g : n - 13 < length (table_rows words rows tables 4)) (k : ℕ) (q : k ≡ nth row_words 0) where
-    exists : ltb n (length e.types) ≡ true
-    exists = lt-ltb n (length e.types) (omega (arith, types_count words rows tables plan))
+  -- any other is no enum and no struct
+  none_there : Undeclared e n → (enum_exists e n ≡ false) × (struct_exists e n ≡ false)
+  none_there (inl h) = rw (builtin_is words rows tables plan n h) (sym (and_false (ltb n (length e.types))), sym (and_false (ltb n (length e.types))))
+  none_there (inr h) = rw (le-ltb n (length e.types) h) (refl, refl)
 
-    pub sort_prim : k ≡ 0 → (false ≡ enum_exists e n) × (false ≡ struct_exists e n)
-    unfolding type_of
-    sort_prim z = rw (exists, type_is words rows tables plan n h g, ← q, eq-eqb k 0 z) (refl, refl)
+  pub enum_missing : Undeclared e n → enum_exists e n ≡ false
+  enum_missing h = (none_there h).0
 
-    pub sort_enum : k ≡ 1 → (true ≡ enum_exists e n) × (false ≡ struct_exists e n)
-    unfolding type_of
-    sort_enum z = rw (exists, type_is words rows tables plan n h g, ← q, ne_eqb k 0 (λ p. omega arith), eq-eqb k 1 z) (refl, refl)
-
-    pub sort_struct : (k ≡ 0 → ⊥) → (k ≡ 1 → ⊥) → (false ≡ enum_exists e n) × (true ≡ struct_exists e n)
-    unfolding type_of
-    sort_struct z o = rw (exists, type_is words rows tables plan n h g, ← q, ne_eqb k 0 z, ne_eqb k 1 o) (refl, refl)
+  pub struct_missing : Undeclared e n → struct_exists e n ≡ false
+  struct_missing h = (none_there h).1
 
   pub variants_found : {index : List ℕ} → Ready words rows tables index → enum_exists e n ≡ true → length (cut index index n) ≡ length (variants_of n e.variants)
   variants_found r q = ap length (r.index_is.numbers n (small (ltb n (length e.types)) refl q)) ∙ numbers_count plan words rows tables n where
@@ -60,41 +87,13 @@ module _ (plan words rows tables : List ℕ) (n : ℕ) where
 
   -- FIELDS
 
-  pub fields_builtin : n < 13 → 0 ≡ field_count (fields_of (type_at e n))
-  fields_builtin h = rw (builtin_is words rows tables plan n h)
+  pub fields_undeclared : Undeclared e n → 0 ≡ field_count (fields_of (type_at e n))
+  fields_undeclared (inl h) = rw (builtin_is words rows tables plan n h)
+  fields_undeclared (inr h) = ap (λ t. field_count (fields_of t)) (sym (get_or-eq_default e.types (Builtin builtin.Bool) h))
 
-  pub fields_past : 13 ≤ n → length (table_rows words rows tables 4) ≤ n - 13 → 0 ≡ field_count (fields_of (type_at e n))
-  fields_past h g = ap (λ t. field_count (fields_of t)) (sym (get_or-eq_default e.types (Builtin builtin.Bool) (omega (arith, types_count words rows tables plan))))
-
-  pub fields_at : 13 ≤ n → n - 13 < length (table_rows words rows tables 4) → field_count (fields_of (type_of row_words)) ≡ field_count (fields_of (type_at e n))
-  fields_at h g = rw (type_is words rows tables plan n h g)
-
-  abbrev nothing : Variant
-  nothing = record { ty = 0; name = 0; fields = unit }
-
-  abbrev pub count_at : List Variant → ℕ → ℕ
-  count_at vs k = field_count (get_or (variants_of n vs) k nothing).fields
-
-  pub count_start : (k i m : ℕ) → i ≡ get_or tables 5 0 → m ≡ get_or tables 6 0 → count_at (map variant_of (cuts words rows i (m - i))) k ≡ field_count (variant_at e n k).fields
+  pub count_start : (k i m : ℕ) → i ≡ get_or tables 5 0 → m ≡ get_or tables 6 0 → count_at n (map variant_of (cuts words rows i (m - i))) k ≡ field_count (variant_at e n k).fields
   unfolding table_rows
   count_start k i m p q = rw (variants_are words rows tables plan, p, q) refl
-
-  module _ (r m k : ℕ) where
-    pub count_other : r < m → (nth (cut words rows r) 0 ≡ n → ⊥) → count_at (map variant_of (cuts words rows r (m - r))) k ≡ count_at (map variant_of (cuts words rows (r + 1) (m - (r + 1)))) k
-    unfolding variants_of variant_of
-    count_other h q = rw (cuts_next words rows r m h, ne_eqb _ n q) refl
-
-    pub count_same : r < m → nth (cut words rows r) 0 ≡ n → k ≡ 0 → field_count (variant_of (cut words rows r)).fields ≡ count_at (map variant_of (cuts words rows r (m - r))) k
-    unfolding variants_of variant_of
-    count_same h q z = rw (cuts_next words rows r m h, eq-eqb _ n q, z) refl
-
-    pub count_later : r < m → nth (cut words rows r) 0 ≡ n → (j : ℕ) → k ≡ suc j → count_at (map variant_of (cuts words rows r (m - r))) k ≡ count_at (map variant_of (cuts words rows (r + 1) (m - (r + 1)))) j
-    unfolding variants_of variant_of
-    count_later h q j z = rw (cuts_next words rows r m h, eq-eqb _ n q, z) refl
-
-    pub count_end : m ≤ r → 0 ≡ count_at (map variant_of (cuts words rows r (m - r))) k
-    unfolding variants_of
-    count_end h = rw (cuts_none words rows r m h) refl
 
   pub fields_none : {index : List ℕ} (k : ℕ) → Ready words rows tables index → n < 256 → length (cut index index n) ≤ k → 0 ≡ field_count (variant_at e n k).fields
   fields_none k r h g =

@@ -1,112 +1,114 @@
-// How many rows a plan's tables have.
-ghost use Rattle.std.specs.Prelude.{◌≡◌, true, false, List, ℕ, ◌+◌, ◌-◌, ◌<◌, eqb, length};
-ghost use Rattle.plan.specs.Refusal.{is_present, enum_exists, struct_exists, variant_exists, constructor_exists, extractor_exists};
-ghost use Rattle.view.specs.Tables.{environment_in};
+// How many rows a plan's tables have, and which of them a number stands for. Each count names its table: one function with the
+// table as its parameter is `Plan::row_count`.
+ghost use Rattle.std.specs.Prelude.{◌≡◌, true, false, ◌&&◌, ℕ, ◌<◌, [], ltb, length, get_or, MatchOption};
+ghost use Rattle.plan.specs.Lookup.{type_at};
+ghost use Rattle.plan.specs.Refusal.{is_present, type_exists, enum_exists, struct_exists, variant_exists, constructor_exists, extractor_exists};
+ghost use Rattle.rows.specs.View.{nth, function_of, type_of};
+ghost use Rattle.view.specs.Buffers.{words_of, rows_of, env_of};
 ghost use Rattle.view.specs.Told.{function_told};
-ghost use Rattle.exists.specs.Ready.{Ready};
+ghost use Rattle.exists.specs.Ready.{Undeclared};
 
+use super::indexed::Indexed;
+use checks::tables::{POSS, SYMS, TERMS, TYPES};
 use literal::builtin_type::BuiltinType;
-use view::environment::FunctionKind;
+use view::buffers::Plan;
+use view::environment::{FunctionKind, TypeData};
 
-pub fn sym_count(tables: &[u32]) -> usize
-    ensures { (plan words rows : List ℕ) → result ≡ length (environment_in plan words rows tables.now).syms }
+#[tactic(auto, using(view::proofs::Plans::syms_count))]
+pub fn sym_count(plan: &Plan<'_>) -> usize
+    ensures { result ≡ length (env_of plan.now).syms }
 {
-    view::row_count(tables, 2)
+    plan.row_count(SYMS)
 }
 
-pub fn pos_count(tables: &[u32]) -> usize
-    ensures { (plan words rows : List ℕ) → result ≡ length (environment_in plan words rows tables.now).poss }
+#[tactic(auto, using(view::proofs::Plans::poss_count))]
+pub fn pos_count(plan: &Plan<'_>) -> usize
+    ensures { result ≡ length (env_of plan.now).poss }
 {
-    view::row_count(tables, 3)
+    plan.row_count(POSS)
 }
 
-pub fn type_count(tables: &[u32]) -> usize
-    ensures { (plan words rows : List ℕ) → result ≡ length (environment_in plan words rows tables.now).types }
+#[tactic(auto, using(view::proofs::Plans::types_count))]
+pub fn type_count(plan: &Plan<'_>) -> usize
+    ensures { result ≡ length (env_of plan.now).types }
 {
-    BuiltinType::COUNT + view::row_count(tables, 4)
+    BuiltinType::COUNT + plan.row_count(TYPES)
 }
 
-pub fn term_count(tables: &[u32]) -> usize
-    ensures { (plan words rows : List ℕ) → result ≡ length (environment_in plan words rows tables.now).terms }
+#[tactic(auto, using(view::proofs::Plans::terms_count))]
+pub fn term_count(plan: &Plan<'_>) -> usize
+    ensures { result ≡ length (env_of plan.now).terms }
 {
-    view::row_count(tables, 6)
+    plan.row_count(TERMS)
 }
 
-// 1 for an enum, 2 for a struct, 0 for any other type and for none.
-pub fn type_sort(words: &[u32], rows: &[u32], tables: &[u32], n: usize) -> u32
-    ensures { (plan : List ℕ) → (eqb result 1 ≡ enum_exists (environment_in plan words.now rows.now tables.now) n) × (eqb result 2 ≡ struct_exists (environment_in plan words.now rows.now tables.now) n) }
+// The row of the type n, unless it is a builtin or there is none.
+pub(crate) fn type_row(plan: &Plan<'_>, n: usize) -> Option<usize>
+    ensures { MatchOption result (Undeclared (env_of plan.now) n) (λ r. (type_exists (env_of plan.now) n ≡ true) × (type_at (env_of plan.now) n ≡ type_of (words_of plan.now r))) }
 {
-    if n < BuiltinType::COUNT {
-        return 0;
+    let i = n.checked_sub(BuiltinType::COUNT)?;
+    if i < plan.row_count(TYPES) {
+        Some(plan.row_at(TYPES, i))
+    } else {
+        None
     }
-    if view::row_count(tables, 4) <= n - BuiltinType::COUNT {
-        return 0;
+}
+
+// Whether the type n is an enum.
+#[tactic(auto, using(crate::proofs::Sorts::enum_missing, crate::proofs::Sorts::enum_found))]
+pub fn enum_exists(plan: &Plan<'_>, n: usize) -> bool
+    ensures { result ≡ enum_exists (env_of plan.now) n }
+{
+    match type_row(plan, n) {
+        Some(r) => matches!(plan.type_at(r), TypeData::Enum(_)),
+        None => false,
     }
-    let r = view::row_at(rows, tables, 4, n - BuiltinType::COUNT);
-    let k = view::word(words, rows, r, 0);
-    if k == 0 {
-        return 0;
+}
+
+// Whether the type n is a struct.
+#[tactic(auto, using(crate::proofs::Sorts::struct_missing, crate::proofs::Sorts::struct_found))]
+pub fn struct_exists(plan: &Plan<'_>, n: usize) -> bool
+    ensures { result ≡ struct_exists (env_of plan.now) n }
+{
+    match type_row(plan, n) {
+        Some(r) => matches!(plan.type_at(r), TypeData::Struct(_, _)),
+        None => false,
     }
-    if k == 1 {
-        return 1;
-    }
-    2
 }
 
 // Whether the type n is an enum with a variant k.
-pub fn variant_exists(
-    words: &[u32],
-    rows: &[u32],
-    tables: &[u32],
-    index: &[u32],
-    n: usize,
-    k: usize,
-) -> bool
-    requires { Ready words.now rows.now tables.now index.now }
-    ensures { (plan : List ℕ) → result ≡ variant_exists (environment_in plan words.now rows.now tables.now) n k }
+#[tactic(auto, using(crate::proofs::Sorts::variants_found))]
+pub fn variant_exists(indexed: &Indexed<'_>, n: usize, k: usize) -> bool
+    ensures { result ≡ variant_exists (env_of indexed.now.plan) n k }
 {
-    if type_sort(words, rows, tables, n) != 1 {
-        return false;
-    }
-    k < view::row_len(index, index, n)
+    enum_exists(&indexed.plan, n) && k < indexed.plan.variant_count(n)
 }
 
 fn is_present(f: FunctionKind) -> bool
     ensures { result ≡ is_present (function_told f) }
 {
-    match f {
-        FunctionKind::Absent => false,
-        FunctionKind::Internal => true,
-        FunctionKind::External { .. } => true,
-    }
+    !matches!(f, FunctionKind::Absent)
+}
+
+// Whether the term n exists, with the function that the word k of its row says.
+fn has_function(plan: &Plan<'_>, n: usize, k: usize) -> bool
+    ensures { result ≡ (ltb n (length (env_of plan.now).terms) && is_present (function_of (nth (get_or (rows_of plan.now 6) n []) k))) }
+{
+    n < term_count(plan) && is_present(plan.function_kind_at(plan.row_at(TERMS, n), k))
 }
 
 // Whether the term n has a constructor.
-pub fn constructor_exists(words: &[u32], rows: &[u32], tables: &[u32], n: usize) -> bool
-    ensures { (plan : List ℕ) → result ≡ constructor_exists (environment_in plan words.now rows.now tables.now) n }
+#[tactic(auto, using(view::proofs::Plans::term_is), unfolding(rows::specs::View::term_of))]
+pub fn constructor_exists(plan: &Plan<'_>, n: usize) -> bool
+    ensures { result ≡ constructor_exists (env_of plan.now) n }
 {
-    if term_count(tables) <= n {
-        return false;
-    }
-    is_present(view::environment::function_kind_at(
-        words,
-        rows,
-        view::row_at(rows, tables, 6, n),
-        5,
-    ))
+    has_function(plan, n, 5)
 }
 
 // Whether the term n has an extractor.
-pub fn extractor_exists(words: &[u32], rows: &[u32], tables: &[u32], n: usize) -> bool
-    ensures { (plan : List ℕ) → result ≡ extractor_exists (environment_in plan words.now rows.now tables.now) n }
+#[tactic(auto, using(view::proofs::Plans::term_is), unfolding(rows::specs::View::term_of))]
+pub fn extractor_exists(plan: &Plan<'_>, n: usize) -> bool
+    ensures { result ≡ extractor_exists (env_of plan.now) n }
 {
-    if term_count(tables) <= n {
-        return false;
-    }
-    is_present(view::environment::function_kind_at(
-        words,
-        rows,
-        view::row_at(rows, tables, 6, n),
-        6,
-    ))
+    has_function(plan, n, 6)
 }

@@ -1,232 +1,120 @@
-// Refusal 5 of the generated terms.
-ghost use Rattle.std.specs.Prelude.{◌≡◌, true, false, ◌&&◌, List, ℕ, ◌+◌, ◌<◌, ltb};
+// Refusal 5: what a plan names exists, and is of the sort that is asked for.
+ghost use Rattle.std.specs.Prelude.{◌≡◌, true, false, ◌&&◌};
 ghost use Rattle.plan.specs.Refusal.{every, binding_refers, constraint_refers, control_flow_refers, row_refers, generated_refers, all_exist};
 ghost use Rattle.rows.specs.View.{binding_of, block_of};
-ghost use Rattle.layout.specs.View.{cut};
-ghost use Rattle.view.specs.Tables.{table_rows, environment_in, generated_at, plan_in};
+ghost use Rattle.view.specs.Buffers.{words_of, rows_of, env_of, plan_of};
 ghost use Rattle.view.specs.Told.{binding_told, constraint_told, control_flow_told};
-ghost use Rattle.exists.specs.Ready.{Ready};
+ghost use Rattle.checks.specs.Tests.{generated_of};
+ghost use Rattle.exists.specs.Ready.{binding_row_refers};
 
-use super::counts;
+use super::counts::{
+    constructor_exists, extractor_exists, pos_count, struct_exists, sym_count, type_count,
+    variant_exists,
+};
+use super::environment::{term_refers, type_refers, variant_refers};
+use super::indexed::Indexed;
+use checks::list::{list_below, patterns_below};
+use checks::tables::{GeneratedTables, TERMS, TYPES, VARIANTS, all_generated, all_rows};
 use view::binding::Binding;
 use view::block::{Constraint, ControlFlow};
+use view::buffers::Plan;
 
 // Whether all that a binding names exists, its sources aside; `args` is how many arguments the generated term has.
-fn binding_refers(
-    words: &[u32],
-    rows: &[u32],
-    tables: &[u32],
-    index: &[u32],
-    args: usize,
-    b: Binding,
-) -> bool
-    requires { Ready words.now rows.now tables.now index.now }
-    ensures { (plan : List ℕ) → result ≡ binding_refers (environment_in plan words.now rows.now tables.now) args (binding_told b) }
+#[tactic(auto, unfolding(plan::specs::Refusal::binding_refers))]
+fn binding_refers(indexed: &Indexed<'_>, args: usize, b: Binding) -> bool
+    ensures { result ≡ binding_refers (env_of indexed.now.plan) args (binding_told b) }
 {
+    let plan = &indexed.plan;
     match b {
-        Binding::ConstBool { .. } => true,
-        Binding::ConstInt { ty, .. } => ty < counts::type_count(tables),
-        Binding::ConstPrim { val } => val < counts::sym_count(tables),
+        Binding::ConstInt { ty, .. } => ty < type_count(plan),
+        Binding::ConstPrim { val } => val < sym_count(plan),
         Binding::Argument { index } => index < args,
-        Binding::Extractor { term } => counts::extractor_exists(words, rows, tables, term),
-        Binding::Constructor { term } => counts::constructor_exists(words, rows, tables, term),
-        Binding::Iterator => true,
-        Binding::MakeVariant { ty, variant } => counts::variant_exists(
-            words, rows, tables, index, ty, variant,
-        ),
-        Binding::MakeStruct { ty } => counts::type_sort(words, rows, tables, ty) == 2,
-        Binding::MakeSome => true,
-        Binding::MatchSome => true,
-        Binding::MatchTuple { .. } => true,
-        Binding::MatchVariant { .. } => true,
-        Binding::ExtractStruct { .. } => true,
+        Binding::Extractor { term } => extractor_exists(plan, term),
+        Binding::Constructor { term } => constructor_exists(plan, term),
+        Binding::MakeVariant { ty, variant } => variant_exists(indexed, ty, variant),
+        Binding::MakeStruct { ty } => struct_exists(plan, ty),
+        _ => true,
     }
 }
 
-fn constraint_refers(
-    words: &[u32],
-    rows: &[u32],
-    tables: &[u32],
-    index: &[u32],
-    c: Constraint,
-) -> bool
-    requires { Ready words.now rows.now tables.now index.now }
-    ensures { (plan : List ℕ) → result ≡ constraint_refers (environment_in plan words.now rows.now tables.now) (constraint_told c) }
+#[tactic(auto, unfolding(plan::specs::Refusal::constraint_refers))]
+fn constraint_refers(indexed: &Indexed<'_>, c: Constraint) -> bool
+    ensures { result ≡ constraint_refers (env_of indexed.now.plan) (constraint_told c) }
 {
+    let plan = &indexed.plan;
     match c {
-        Constraint::ConstBool { .. } => true,
-        Constraint::ConstInt { ty, .. } => ty < counts::type_count(tables),
-        Constraint::ConstPrim { val } => val < counts::sym_count(tables),
-        Constraint::Variant { ty, variant } => counts::variant_exists(
-            words, rows, tables, index, ty, variant,
-        ),
-        Constraint::Struct { ty } => counts::type_sort(words, rows, tables, ty) == 2,
-        Constraint::Some => true,
+        Constraint::ConstInt { ty, .. } => ty < type_count(plan),
+        Constraint::ConstPrim { val } => val < sym_count(plan),
+        Constraint::Variant { ty, variant } => variant_exists(indexed, ty, variant),
+        Constraint::Struct { ty } => struct_exists(plan, ty),
+        _ => true,
     }
-}
-
-// Whether the two numbers are below n and m.
-fn are_below(a: usize, n: usize, b: usize, m: usize) -> bool
-    ensures { result ≡ (ltb a n && ltb b m) }
-{
-    if n <= a {
-        return false;
-    }
-    b < m
 }
 
 // Whether all that a step names exists, its `bind_order` aside; n is the number of bindings.
-fn control_flow_refers(tables: &[u32], n: usize, c: ControlFlow) -> bool
-    ensures { (plan words rows : List ℕ) → result ≡ control_flow_refers (environment_in plan words rows tables.now) n (control_flow_told c) }
+#[tactic(auto, unfolding(plan::specs::Refusal::control_flow_refers))]
+fn control_flow_refers(plan: &Plan<'_>, n: usize, c: ControlFlow) -> bool
+    ensures { result ≡ control_flow_refers (env_of plan.now) n (control_flow_told c) }
 {
     match c {
         ControlFlow::Match { source } => source < n,
-        ControlFlow::Equal { a, b } => are_below(a, n, b, n),
+        ControlFlow::Equal { a, b } => a < n && b < n,
         ControlFlow::Loop { result } => result < n,
-        ControlFlow::Return { result, pos } => are_below(result, n, pos, counts::pos_count(tables)),
+        ControlFlow::Return { result, pos } => result < n && pos < pos_count(plan),
     }
 }
 
-fn binding_row_refers(
-    words: &[u32],
-    rows: &[u32],
-    tables: &[u32],
-    index: &[u32],
-    args: usize,
-    n: usize,
-    r: usize,
-) -> bool
-    requires { Ready words.now rows.now tables.now index.now }
-    ensures { (plan : List ℕ) → result ≡ (binding_refers (environment_in plan words.now rows.now tables.now) args (binding_of (cut words.now rows.now r)).binding && every (λ q. ltb q n) (binding_of (cut words.now rows.now r)).sources) }
+#[tactic(auto, unfolding(rows::specs::View::binding_of))]
+fn binding_row_refers(indexed: &Indexed<'_>, args: usize, n: usize, r: usize) -> bool
+    ensures { result ≡ binding_row_refers (env_of indexed.now.plan) args n (binding_of (words_of indexed.now.plan r)) }
 {
-    let b = view::binding::binding_at(words, rows, r);
-    if !binding_refers(words, rows, tables, index, args, b) {
-        return false;
-    }
-    checks::list::list_below(words, rows, r, 6, n)
+    let b = indexed.plan.binding_at(r);
+    binding_refers(indexed, args, b) && list_below(&indexed.plan, r, 6, n)
 }
 
-fn block_row_refers(
-    words: &[u32],
-    rows: &[u32],
-    tables: &[u32],
-    index: &[u32],
-    n: usize,
-    r: usize,
-) -> bool
-    requires { Ready words.now rows.now tables.now index.now }
-    ensures { (plan : List ℕ) → result ≡ row_refers (environment_in plan words.now rows.now tables.now) n (block_of (cut words.now rows.now r)) }
+#[tactic(auto, unfolding(plan::specs::Refusal::row_refers, rows::specs::View::block_of))]
+fn block_row_refers(indexed: &Indexed<'_>, n: usize, r: usize) -> bool
+    ensures { result ≡ row_refers (env_of indexed.now.plan) n (block_of (words_of indexed.now.plan r)) }
 {
-    if view::block::is_step(words, rows, r) {
-        let c = view::block::control_flow_at(words, rows, r);
-        if !control_flow_refers(tables, n, c) {
-            return false;
-        }
-        return checks::list::list_below(words, rows, r, 7, n);
+    let plan = &indexed.plan;
+    if plan.is_step(r) {
+        control_flow_refers(plan, n, plan.control_flow_at(r)) && list_below(plan, r, 7, n)
+    } else {
+        constraint_refers(indexed, plan.constraint_at(r)) && patterns_below(plan, r, n)
     }
-    let c = view::block::constraint_at(words, rows, r);
-    if !constraint_refers(words, rows, tables, index, c) {
-        return false;
-    }
-    checks::list::patterns_below(words, rows, r, n)
 }
 
-fn bindings_refer(
-    words: &[u32],
-    rows: &[u32],
-    tables: &[u32],
-    index: &[u32],
-    args: usize,
-    n: usize,
-    t: usize,
-) -> bool
-    requires { Ready words.now rows.now tables.now index.now }
-    ensures { (plan : List ℕ) → result ≡ every (λ ws. binding_refers (environment_in plan words.now rows.now tables.now) args (binding_of ws).binding && every (λ q. ltb q n) (binding_of ws).sources) (table_rows words.now rows.now tables.now t) }
+// Whether all that the bindings and the block of a generated term name exists.
+fn rows_refer(indexed: &Indexed<'_>, g: GeneratedTables, args: usize, n: usize) -> bool
+    ensures { result ≡ (every (λ ws. binding_row_refers (env_of indexed.now.plan) args n (binding_of ws)) (rows_of indexed.now.plan g.bindings)
+        && every (λ ws. row_refers (env_of indexed.now.plan) n (block_of ws)) (rows_of indexed.now.plan g.block)) }
 {
-    let end = view::next_bound(tables, t);
-    let mut r = view::bound(tables, t);
-    while r < end {
-        if !binding_row_refers(words, rows, tables, index, args, n, r) {
-            return false;
-        }
-        r += 1;
-    }
-    true
+    let plan = &indexed.plan;
+    all_rows(
+        plan,
+        g.bindings,
+        |r| binding_row_refers(indexed, args, n, r),
+    ) && all_rows(plan, g.block, |r| block_row_refers(indexed, n, r))
 }
 
-fn block_refers(
-    words: &[u32],
-    rows: &[u32],
-    tables: &[u32],
-    index: &[u32],
-    n: usize,
-    t: usize,
-) -> bool
-    requires { Ready words.now rows.now tables.now index.now }
-    ensures { (plan : List ℕ) → result ≡ every (λ ws. row_refers (environment_in plan words.now rows.now tables.now) n (block_of ws)) (table_rows words.now rows.now tables.now t) }
+// Whether all that a generated term names exists.
+#[tactic(auto, using(crate::proofs::Rows::generated_tests))]
+fn generated_refers(indexed: &Indexed<'_>, g: GeneratedTables) -> bool
+    ensures { result ≡ generated_refers (env_of indexed.now.plan) (generated_of indexed.now.plan g) }
 {
-    let end = view::next_bound(tables, t);
-    let mut r = view::bound(tables, t);
-    while r < end {
-        if !block_row_refers(words, rows, tables, index, n, r) {
-            return false;
-        }
-        r += 1;
-    }
-    true
+    let plan = &indexed.plan;
+    let m = plan.word(plan.row_at(g.term, 0), 0);
+    let args = plan.list_len(plan.row_at(TERMS, m), 8);
+    constructor_exists(plan, m) && rows_refer(indexed, g, args, plan.row_count(g.bindings))
 }
 
-// Whether all that a generated term names exists: its number is in table t, with its bindings and its block in two further tables.
-fn generated_refers(
-    words: &[u32],
-    rows: &[u32],
-    tables: &[u32],
-    index: &[u32],
-    t: usize,
-    bindings: usize,
-    block: usize,
-) -> bool
-    requires { Ready words.now rows.now tables.now index.now }
-    ensures { (plan : List ℕ) → bindings ≡ t + 1 → block ≡ t + 2 → result ≡ generated_refers (environment_in plan words.now rows.now tables.now) (generated_at words.now rows.now tables.now t) }
+#[tactic(auto, using(crate::proofs::Rows::exist_tests))]
+pub fn all_exist(indexed: &Indexed<'_>) -> bool
+    ensures { result ≡ all_exist (plan_of indexed.now.plan) }
 {
-    let m = view::word(words, rows, view::row_at(rows, tables, t, 0), 0);
-    if !counts::constructor_exists(words, rows, tables, m) {
-        return false;
-    }
-    let args = view::list_len(words, rows, view::row_at(rows, tables, 6, m), 8);
-    let n = view::row_count(tables, bindings);
-    if !bindings_refer(words, rows, tables, index, args, n, bindings) {
-        return false;
-    }
-    block_refers(words, rows, tables, index, n, block)
-}
-
-fn all_refer(words: &[u32], rows: &[u32], tables: &[u32], index: &[u32]) -> bool
-    requires { Ready words.now rows.now tables.now index.now }
-    ensures { (plan : List ℕ) → result ≡ every (generated_refers (environment_in plan words.now rows.now tables.now)) (plan_in plan words.now rows.now tables.now).generated }
-{
-    let mut t = 7;
-    while t + 3 < tables.len() {
-        if !generated_refers(words, rows, tables, index, t, t + 1, t + 2) {
-            return false;
-        }
-        t += 3;
-    }
-    true
-}
-
-pub fn all_exist(words: &[u32], rows: &[u32], tables: &[u32], index: &[u32]) -> bool
-    requires { Ready words.now rows.now tables.now index.now }
-    ensures { (plan : List ℕ) → result ≡ all_exist (plan_in plan words.now rows.now tables.now) }
-{
-    if !super::environment::table_exists(words, rows, tables, 4, 4) {
-        return false;
-    }
-    if !super::environment::table_exists(words, rows, tables, 5, 5) {
-        return false;
-    }
-    if !super::environment::table_exists(words, rows, tables, 6, 6) {
-        return false;
-    }
-    all_refer(words, rows, tables, index)
+    let plan = &indexed.plan;
+    all_rows(plan, TYPES, |r| type_refers(plan, r))
+        && all_rows(plan, VARIANTS, |r| variant_refers(plan, r))
+        && all_rows(plan, TERMS, |r| term_refers(plan, r))
+        && all_generated(plan, |g| generated_refers(indexed, g))
 }

@@ -1,187 +1,122 @@
 // Refusal 6: a binding's or arm's list length differs from what it names.
-ghost use Rattle.std.specs.Prelude.{◌≡◌, true, false, ◌&&◌, List, ℕ, ◌+◌, ◌-◌, ◌<◌};
+ghost use Rattle.std.specs.Prelude.{◌≡◌};
 ghost use Rattle.plan.specs.Lookup.{type_at, variant_at, fields_of, field_count};
-ghost use Rattle.plan.specs.Refusal.{every, source_count, pattern_count, lengths_fit};
-ghost use Rattle.layout.specs.View.{cut};
-ghost use Rattle.view.specs.Tables.{table_rows, environment_in, plan_in};
+ghost use Rattle.plan.specs.Refusal.{source_count, pattern_count, arm_length_fits, lengths_fit};
+ghost use Rattle.rows.specs.View.{binding_of, block_of};
+ghost use Rattle.view.specs.Buffers.{words_of, env_of, plan_of};
 ghost use Rattle.view.specs.Told.{binding_told, constraint_told};
-ghost use Rattle.exists.specs.Ready.{Ready, row_fits};
+ghost use Rattle.checks.specs.Tests.{generated_of};
+ghost use Rattle.exists.specs.Ready.{binding_length_fits, generated_fits};
 
-use literal::builtin_type::BuiltinType;
+use super::counts::type_row;
+use super::indexed::Indexed;
+use checks::tables::{GeneratedTables, TERMS, VARIANTS, all_generated, all_rows};
 use view::binding::Binding;
 use view::block::Constraint;
+use view::buffers::Plan;
 
 // How many fields the type n has.
-fn struct_fields(words: &[u32], rows: &[u32], tables: &[u32], n: usize) -> usize
-    ensures { (plan : List ℕ) → result ≡ field_count (fields_of (type_at (environment_in plan words.now rows.now tables.now) n)) }
+#[tactic(auto, using(crate::proofs::Sorts::fields_undeclared))]
+fn struct_fields(plan: &Plan<'_>, n: usize) -> usize
+    ensures { result ≡ field_count (fields_of (type_at (env_of plan.now) n)) }
 {
-    if n < BuiltinType::COUNT {
-        return 0;
+    match type_row(plan, n) {
+        Some(r) => plan.type_field_count(r),
+        None => 0,
     }
-    if view::row_count(tables, 4) <= n - BuiltinType::COUNT {
-        return 0;
-    }
-    let r = view::row_at(rows, tables, 4, n - BuiltinType::COUNT);
-    view::environment::type_field_count(words, rows, r)
 }
 
 // How many fields the variant k of a type has that has no place in the index.
-fn scan_fields(words: &[u32], rows: &[u32], tables: &[u32], n: usize, k: usize) -> usize
-    ensures { (plan : List ℕ) → result ≡ field_count (variant_at (environment_in plan words.now rows.now tables.now) n k).fields }
+fn scan_fields(plan: &Plan<'_>, n: usize, k: usize) -> usize
+    ensures { result ≡ field_count (variant_at (env_of plan.now) n k).fields }
 {
-    let end = view::next_bound(tables, 5);
-    let mut r = view::bound(tables, 5);
     let mut left = k;
-    while r < end {
-        let next = r + 1;
-        if view::word(words, rows, r, 0) != n {
-            r = next;
-            continue;
+    for r in plan.first_row(VARIANTS)..plan.end_row(VARIANTS) {
+        if plan.word(r, 0) == n {
+            if left == 0 {
+                return plan.variant_field_count(r);
+            }
+            left -= 1;
         }
-        if left == 0 {
-            return view::environment::variant_field_count(words, rows, r);
-        }
-        left -= 1;
-        r = next;
     }
     0
 }
 
 // How many fields the variant k of the type n has.
-fn variant_fields(
-    words: &[u32],
-    rows: &[u32],
-    tables: &[u32],
-    index: &[u32],
-    n: usize,
-    k: usize,
-) -> usize
-    requires { Ready words.now rows.now tables.now index.now }
-    ensures { (plan : List ℕ) → result ≡ field_count (variant_at (environment_in plan words.now rows.now tables.now) n k).fields }
+fn variant_fields(indexed: &Indexed<'_>, n: usize, k: usize) -> usize
+    ensures { result ≡ field_count (variant_at (env_of indexed.now.plan) n k).fields }
 {
+    let plan = &indexed.plan;
     if 256 <= n {
-        return scan_fields(words, rows, tables, n, k);
+        scan_fields(plan, n, k)
+    } else if k < plan.variant_count(n) {
+        plan.variant_field_count(plan.variant_row(n, k))
+    } else {
+        0
     }
-    if view::row_len(index, index, n) <= k {
-        return 0;
-    }
-    view::environment::variant_field_count(words, rows, view::word(index, index, n, k))
 }
 
 // How many sources a binding has.
-fn source_count(words: &[u32], rows: &[u32], tables: &[u32], index: &[u32], b: Binding) -> usize
-    requires { Ready words.now rows.now tables.now index.now }
-    ensures { (plan : List ℕ) → result ≡ source_count (environment_in plan words.now rows.now tables.now) (binding_told b) }
+#[tactic(auto, using(view::proofs::Plans::term_is), unfolding(plan::specs::Refusal::source_count, rows::specs::View::term_of))]
+fn source_count(indexed: &Indexed<'_>, b: Binding) -> usize
+    ensures { result ≡ source_count (env_of indexed.now.plan) (binding_told b) }
 {
+    let plan = &indexed.plan;
     match b {
-        Binding::ConstBool { .. } => 0,
-        Binding::ConstInt { .. } => 0,
-        Binding::ConstPrim { .. } => 0,
-        Binding::Argument { .. } => 0,
-        Binding::Extractor { .. } => 1,
-        Binding::Constructor { term } => view::list_len(
-            words,
-            rows,
-            view::row_at(rows, tables, 6, term),
-            8,
-        ),
-        Binding::Iterator => 1,
-        Binding::MakeVariant { ty, variant } => variant_fields(
-            words, rows, tables, index, ty, variant,
-        ),
-        Binding::MakeStruct { ty } => struct_fields(words, rows, tables, ty),
-        Binding::MakeSome => 1,
-        Binding::MatchSome => 1,
-        Binding::MatchTuple { .. } => 1,
-        Binding::MatchVariant { .. } => 1,
-        Binding::ExtractStruct { .. } => 1,
+        Binding::ConstBool { .. }
+        | Binding::ConstInt { .. }
+        | Binding::ConstPrim { .. }
+        | Binding::Argument { .. } => 0,
+        Binding::Constructor { term } => plan.list_len(plan.row_at(TERMS, term), 8),
+        Binding::MakeVariant { ty, variant } => variant_fields(indexed, ty, variant),
+        Binding::MakeStruct { ty } => struct_fields(plan, ty),
+        _ => 1,
     }
 }
 
 // How many bindings an arm has.
-fn pattern_count(words: &[u32], rows: &[u32], tables: &[u32], index: &[u32], c: Constraint) -> usize
-    requires { Ready words.now rows.now tables.now index.now }
-    ensures { (plan : List ℕ) → result ≡ pattern_count (environment_in plan words.now rows.now tables.now) (constraint_told c) }
+#[tactic(auto, unfolding(plan::specs::Refusal::pattern_count))]
+fn pattern_count(indexed: &Indexed<'_>, c: Constraint) -> usize
+    ensures { result ≡ pattern_count (env_of indexed.now.plan) (constraint_told c) }
 {
     match c {
-        Constraint::ConstBool { .. } => 0,
-        Constraint::ConstInt { .. } => 0,
-        Constraint::ConstPrim { .. } => 0,
-        Constraint::Variant { ty, variant } => variant_fields(
-            words, rows, tables, index, ty, variant,
-        ),
-        Constraint::Struct { ty } => struct_fields(words, rows, tables, ty),
+        Constraint::Variant { ty, variant } => variant_fields(indexed, ty, variant),
+        Constraint::Struct { ty } => struct_fields(&indexed.plan, ty),
         Constraint::Some => 1,
+        _ => 0,
     }
 }
 
-// Whether the list of row r has the length that its binding or arm asks for; the sorts are 8 bindings, else block rows.
-fn row_fits(words: &[u32], rows: &[u32], tables: &[u32], index: &[u32], sort: u32, r: usize) -> bool
-    requires { Ready words.now rows.now tables.now index.now }
-    ensures { (plan : List ℕ) → result ≡ row_fits (environment_in plan words.now rows.now tables.now) sort (cut words.now rows.now r) }
+// Whether the list of row r has the length that its binding asks for.
+#[tactic(auto, unfolding(rows::specs::View::binding_of))]
+fn binding_fits(indexed: &Indexed<'_>, r: usize) -> bool
+    ensures { result ≡ binding_length_fits (env_of indexed.now.plan) (binding_of (words_of indexed.now.plan r)) }
 {
-    if sort == 8 {
-        let b = view::binding::binding_at(words, rows, r);
-        return view::list_len(words, rows, r, 6) == source_count(words, rows, tables, index, b);
-    }
-    if view::block::is_step(words, rows, r) {
-        return true;
-    }
-    let c = view::block::constraint_at(words, rows, r);
-    view::list_len(words, rows, r, 7) == pattern_count(words, rows, tables, index, c)
+    let b = indexed.plan.binding_at(r);
+    indexed.plan.list_len(r, 6) == source_count(indexed, b)
 }
 
-fn table_fits(
-    words: &[u32],
-    rows: &[u32],
-    tables: &[u32],
-    index: &[u32],
-    sort: u32,
-    t: usize,
-) -> bool
-    requires { Ready words.now rows.now tables.now index.now }
-    ensures { (plan : List ℕ) → result ≡ every (row_fits (environment_in plan words.now rows.now tables.now) sort) (table_rows words.now rows.now tables.now t) }
+// Whether row r is a step, or its list has the length that its arm asks for.
+#[tactic(auto, using(crate::proofs::Rows::step_length, crate::proofs::Rows::arm_length))]
+fn arm_fits(indexed: &Indexed<'_>, r: usize) -> bool
+    ensures { result ≡ arm_length_fits (env_of indexed.now.plan) (block_of (words_of indexed.now.plan r)) }
 {
-    let end = view::next_bound(tables, t);
-    let mut r = view::bound(tables, t);
-    while r < end {
-        if !row_fits(words, rows, tables, index, sort, r) {
-            return false;
-        }
-        r += 1;
-    }
-    true
+    let plan = &indexed.plan;
+    plan.is_step(r) || plan.list_len(r, 7) == pattern_count(indexed, plan.constraint_at(r))
 }
 
-// Refusal 6 of the bindings of a table and the block of another.
-fn tables_fit(
-    words: &[u32],
-    rows: &[u32],
-    tables: &[u32],
-    index: &[u32],
-    bindings: usize,
-    block: usize,
-) -> bool
-    requires { Ready words.now rows.now tables.now index.now }
-    ensures { (plan : List ℕ) → result ≡ (every (row_fits (environment_in plan words.now rows.now tables.now) 8) (table_rows words.now rows.now tables.now bindings)
-        && every (row_fits (environment_in plan words.now rows.now tables.now) 9) (table_rows words.now rows.now tables.now block)) }
+// Whether the lists of a generated term's bindings and block have the lengths that are asked for.
+fn generated_fits(indexed: &Indexed<'_>, g: GeneratedTables) -> bool
+    ensures { result ≡ generated_fits (env_of indexed.now.plan) (generated_of indexed.now.plan g) }
 {
-    if !table_fits(words, rows, tables, index, 8, bindings) {
-        return false;
-    }
-    table_fits(words, rows, tables, index, 9, block)
+    let plan = &indexed.plan;
+    all_rows(plan, g.bindings, |r| binding_fits(indexed, r))
+        && all_rows(plan, g.block, |r| arm_fits(indexed, r))
 }
 
-pub fn lengths_fit(words: &[u32], rows: &[u32], tables: &[u32], index: &[u32]) -> bool
-    requires { Ready words.now rows.now tables.now index.now }
-    ensures { (plan : List ℕ) → result ≡ lengths_fit (plan_in plan words.now rows.now tables.now) }
+#[tactic(auto, using(crate::proofs::Rows::fits_plan))]
+pub fn lengths_fit(indexed: &Indexed<'_>) -> bool
+    ensures { result ≡ lengths_fit (plan_of indexed.now.plan) }
 {
-    let mut t = 7;
-    while t + 3 < tables.len() {
-        if !tables_fit(words, rows, tables, index, t + 1, t + 2) {
-            return false;
-        }
-        t += 3;
-    }
-    true
+    all_generated(&indexed.plan, |g| generated_fits(indexed, g))
 }

@@ -4,38 +4,50 @@
 pub mod counts;
 pub mod environment;
 pub mod generated;
+pub mod indexed;
 pub mod lengths;
 
-ghost use Rattle.std.specs.Prelude.{◌≡◌, List, ℕ};
+ghost use Rattle.std.specs.Prelude.{◌≡◌, OnOk};
 ghost use Rattle.plan.specs.Refusal.{number_of, judged};
-ghost use Rattle.variants.specs.Index.{VariantIndex};
-ghost use Rattle.view.specs.Tables.{plan_in};
+ghost use Rattle.view.specs.Buffers.{plan_of};
+ghost use Rattle.refusal.specs.Number.{result_number};
+ghost use Rattle.variants.specs.Index.{VariantIndexIn};
 
-// The number of the lowest of the refusals 4 to 10, 0 for none: then the variants are indexed.
-pub fn judge(words: &[u32], rows: &[u32], tables: &[u32], index: &mut [u32; 1281]) -> u32
-    ensures { ((plan : List ℕ) → result ≡ number_of (judged (plan_in plan words.now rows.now tables.now))) × (result ≡ 0 → VariantIndex words.now rows.now tables.now index.new) }
+use checks::{arms, loops, lower, most, returns};
+use indexed::Indexed;
+use refusal::Refusal;
+use view::buffers::Plan;
+
+// The lowest of the refusals 4 to 10, if there is one; a plan that passes has its variants indexed.
+#[tactic(auto, using(crate::proofs::Judged::arguments_are_few), unfolding(plan::specs::Refusal::judged))]
+pub fn judge(plan: &Plan<'_>, index: &mut [u32; 1281]) -> Result<(), Refusal>
+    ensures number { result_number result ≡ number_of (judged (plan_of plan.now)) }
+    ensures indexed { OnOk result (VariantIndexIn plan.now index.new) }
 {
-    if !checks::most::within_most(words, rows, tables) {
-        return 4;
+    if !most::within_most(plan) {
+        return Err(Refusal::Most);
     }
-    variants::index_variants(words, rows, tables, index);
-    if !generated::all_exist(words, rows, tables, index) {
-        return 5;
+    variants::index_variants(plan, index);
+    let indexed = Indexed {
+        plan: Plan { index, ..*plan },
+    };
+    if !generated::all_exist(&indexed) {
+        return Err(Refusal::Exists);
     }
-    if !lengths::lengths_fit(words, rows, tables, index) {
-        return 6;
+    if !lengths::lengths_fit(&indexed) {
+        return Err(Refusal::Lengths);
     }
-    if !checks::lower::sources_lower(words, rows, tables) {
-        return 7;
+    if !lower::sources_lower(plan) {
+        return Err(Refusal::Lower);
     }
-    if !checks::returns::returns_fit(words, rows, tables) {
-        return 8;
+    if !returns::returns_fit(plan) {
+        return Err(Refusal::Returns);
     }
-    if !checks::arms::matches_have_arms(words, rows, tables) {
-        return 9;
+    if !arms::matches_have_arms(plan) {
+        return Err(Refusal::Armless);
     }
-    if !checks::loops::loops_iterate(words, rows, tables) {
-        return 10;
+    if !loops::loops_iterate(plan) {
+        return Err(Refusal::Loop);
     }
-    0
+    Ok(())
 }

@@ -2,36 +2,45 @@
 use Prim.Native.Nat.{ℕ, zero, suc, ◌+◌, ◌-◌, ◌≤◌, ◌<◌}
 use mathlib.Core.Path.{◌≡◌, refl, sym, ap, ◌∙◌}
 use mathlib.Core.Bool.{Bool, true, false, cond, ◌&&◌, ◌||◌}
+use mathlib.Core.Logic.{◌⊎◌, inl, inr}
 use mathlib.Core.List.{List, [], ◌∷◌}
 use native.Mathlib.Numerals.{add-one}
 use native.Mathlib.Omega.{arith}
 use lib.Dec.{eqb, ltb}
 use lib.ListN.{length, get_or, set, drop, replicate, drop_of_length-le, length-drop}
 use lib.Seq.{drop-cons, get_or-drop, get_or-set_same, get_or-set_other, set_out}
-use borrow.Author.Tests.{ltb-true, ltb-false, eqb-true, eqb-false, ne_eqb}
+use borrow.Author.Tests.{ltb-true, ltb-false, eqb-true, eqb-false}
 use Rattle.plan.specs.Plan.{Environment, Term}
 use Rattle.plan.specs.Binding.{BindingRow}
+use Rattle.view.specs.Told.{binding_told}
+use Rattle.view.specs.declared.binding.Binding.{Binding}
+use Rattle.view.specs.declared.binding.Binding.TheVariants as b
 use Rattle.plan.specs.Lookup.{term_at, binding_at}
 use Rattle.plan.specs.Refusal.{every}
-use Rattle.codegen.specs.Writer.{Marks, contains}
+use Rattle.codegen.specs.Writer.{contains}
 use Rattle.codegen.specs.ReturnKind as kind
 use Rattle.codegen.specs.ReturnKind.{ReturnKind, by_return_kind}
 use Rattle.codegen.specs.Sema.{is_external, extractor_sig, constructor_sig}
-use Rattle.values.specs.Value.{Wide}
-use Rattle.rows.specs.View.{nth, flagged, term_of, wide_at, binding_made, binding_of}
-use Rattle.view.specs.Tables.{table_rows}
+use Rattle.rows.specs.View.{nth, flagged, term_of, binding_of}
+use Rattle.view.specs.Buffers.{rows_of, env_of}
+use Rattle.view.specs.declared.buffers.Plan.{Plan}
+use Rattle.view.proofs.Plans.{term_is}
+use Rattle.emits.specs.Marks.{set_of}
 use Rattle.checks.proofs.Blocks.{binding_is}
 use Rattle.splitting.specs.Cases.{and_left, and_right}
 use Rattle.schedule_rules.specs.Faults.{any, returns_many}
 use Rattle.schedule_rules.specs.Found.{Lower}
 use Rattle.schedule_rules.proofs.Found.{found_by_sources}
-use Rattle.expr_faults.specs.Kept.{TermsHeld, bindings_in, asked_name, asked_call, answer, Known, Latest, Fresh, Finds}
+use Rattle.expr_faults.specs.Kept.{bindings_of, answer, name_asked, call_asked, answer_to, Known, Latest, Fresh, Finds}
+use Rattle.expr_faults.specs.declared.kept.Kept.{Kept}
+use Rattle.expr_faults.specs.declared.written.Bindings.{Bindings}
+use Rattle.expr_faults.specs.declared.written.Question.{Question}
 
 -- TERMS
 
-pub multi_is : {env : Environment} {words rows tables : List ℕ} (m : ℕ) → TermsHeld env words rows tables → flagged (nth (get_or (table_rows words rows tables 6) m []) 3) ≡ (term_at env m).multi
+pub multi_is : (p : Plan) (m : ℕ) → flagged (nth (get_or (rows_of p 6) m []) 3) ≡ (term_at (env_of p) m).multi
 unfolding term_of
-multi_is m h = ap (λ (t : Term). t.multi) (sym (h.term m))
+multi_is p m = ap (λ (t : Term). t.multi) (sym (term_is p.words.now p.rows.now p.tables.now p.bytes.now m))
 
 iterator_first : (a b : Bool) (x y z : ReturnKind) → by_return_kind x true false false ≡ true → by_return_kind y true false false ≡ false → by_return_kind z true false false ≡ false → by_return_kind (cond a x (cond b y z)) true false false ≡ a
 iterator_first true b x y z h g k = h
@@ -46,39 +55,28 @@ constructor_many : (t : Term) → by_return_kind (constructor_sig t).ret_kind tr
 unfolding constructor_sig by_return_kind
 constructor_many t = iterator_first t.multi t.partial kind.Iterator kind.Option kind.Plain refl refl refl
 
--- by the kind's number
-many_made : (e : Environment) (k a : ℕ) (b : Wide) → returns_many e (binding_made k a b) ≡ ((eqb k 4 || eqb k 5) && (term_at e a).multi)
-unfolding returns_many binding_made
-many_made e zero a b = refl
-many_made e (suc zero) a b = refl
-many_made e (suc (suc zero)) a b = refl
-many_made e (suc (suc (suc zero))) a b = refl
-many_made e (suc (suc (suc (suc zero)))) a b = extractor_many (term_at e a)
-many_made e (suc (suc (suc (suc (suc zero))))) a b = constructor_many (term_at e a)
-many_made e (suc (suc (suc (suc (suc (suc k)))))) a b = rw (ne_eqb (suc (suc (suc (suc (suc (suc k)))))) 4 (λ q. absurd (omega arith)), ne_eqb (suc (suc (suc (suc (suc (suc k)))))) 5 (λ q. absurd (omega arith))) (other k)
-  where
-    other : (k : ℕ) → returns_many e (binding_made (suc (suc (suc (suc (suc (suc k)))))) a b) ≡ false
-    other zero = refl
-    other (suc zero) = refl
-    other (suc (suc zero)) = refl
-    other (suc (suc (suc zero))) = refl
-    other (suc (suc (suc (suc zero)))) = refl
-    other (suc (suc (suc (suc (suc zero))))) = refl
-    other (suc (suc (suc (suc (suc (suc zero)))))) = refl
-    other (suc (suc (suc (suc (suc (suc (suc zero))))))) = refl
-    other (suc (suc (suc (suc (suc (suc (suc (suc k)))))))) = refl
+-- by the binding as code reads it
+pub many_called : (e : Environment) (x : Binding) (m : ℕ) → (x ≡ b.Extractor m) ⊎ (x ≡ b.Constructor m) → returns_many e (binding_told x) ≡ (term_at e m).multi
+unfolding returns_many
+many_called e x m (inl h) = rw h (extractor_many (term_at e m))
+many_called e x m (inr h) = rw h (constructor_many (term_at e m))
 
-module _ (env : Environment) (ws : List ℕ) where
-  abbrev calls : Bool
-  calls = eqb (nth ws 0) 4 || eqb (nth ws 0) 5
-
-  pub many_not : calls ≡ false → false ≡ returns_many env (binding_of ws).binding
-  unfolding binding_of
-  many_not h = sym (many_made env (nth ws 0) (nth ws 1) (wide_at ws 2) ∙ rw h)
-
-  pub many_is : calls ≡ true → (term_at env (nth ws 1)).multi ≡ returns_many env (binding_of ws).binding
-  unfolding binding_of
-  many_is h = sym (many_made env (nth ws 0) (nth ws 1) (wide_at ws 2) ∙ rw h)
+pub many_other : (e : Environment) (x : Binding) → ((m : ℕ) → x ≡ b.Extractor m → ⊥) → ((m : ℕ) → x ≡ b.Constructor m → ⊥) → returns_many e (binding_told x) ≡ false
+unfolding returns_many
+many_other e (b.ConstBool v) h g = refl
+many_other e (b.ConstInt ty high low) h g = refl
+many_other e (b.ConstPrim v) h g = refl
+many_other e (b.Argument i) h g = refl
+many_other e (b.Extractor m) h g = absurd (h m refl)
+many_other e (b.Constructor m) h g = absurd (g m refl)
+many_other e b.Iterator h g = refl
+many_other e (b.MakeVariant ty v) h g = refl
+many_other e (b.MakeStruct ty) h g = refl
+many_other e b.MakeSome h g = refl
+many_other e b.MatchSome h g = refl
+many_other e (b.MatchTuple n) h g = refl
+many_other e (b.MatchVariant n) h g = refl
+many_other e (b.ExtractStruct n) h g = refl
 
 -- WHAT IS KEPT
 
@@ -138,125 +136,117 @@ latest_more {number} {kept} b y l = record { most = λ x. set_cases (λ n. n ≤
 
 -- EXPRESSIONS
 
-module _ (own : Bool) (words rows tables : List ℕ) (t : ℕ) (before bound : Marks) (number b : ℕ) where
-  abbrev bs : List BindingRow
-  bs = bindings_in words rows tables t
-
-  abbrev through : Environment → Bool
-  through env = asked_call own env bs b || any (answer own env bs before bound) (binding_at bs b).sources
-
-  answer_is : (env : Environment) → Lower bs → answer own env bs before bound b ≡ cond (contains bound b) (asked_name own before b) (through env)
+module _ (q : Question) (s : Bindings) (b : ℕ) where
+  answer_is : Lower (bindings_of s) → answer_to q s b ≡ cond (contains (set_of q.bound.now) b) (name_asked q b) (call_asked q s b || any (answer_to q s) (binding_at (bindings_of s) b).sources)
   unfolding answer
-  answer_is env l = found_by_sources (asked_name own before) (asked_call own env bs) bs bound l b
+  answer_is l = found_by_sources (name_asked q) (call_asked q s) (bindings_of s) (set_of q.bound.now) l b
 
   -- a name
-  pub finds_name : {kept : List ℕ} {r : Bool} → contains bound b ≡ true → r ≡ asked_name own before b → Finds own words rows tables t before bound number (λ f. f b) kept kept r
-  finds_name h q = record { known = λ env x l k. (q ∙ sym (answer_is env l ∙ rw h), k); latest = λ k. k }
+  pub finds_name : {k : Kept} {r : Bool} → contains (set_of q.bound.now) b ≡ true → r ≡ name_asked q b → Finds q s (λ f. f b) k k r
+  finds_name h e = record { known = λ l k. (e ∙ sym (answer_is l ∙ rw h), k); latest = λ k. k; number = refl }
 
   -- what is kept
-  pub finds_kept : {kept : List ℕ} {old : ℕ} (y : Bool) → old ≡ get_or kept b 0 → old ≡ mark y number → Finds own words rows tables t before bound number (λ f. f b) kept kept y
-  finds_kept true h q = record { known = λ env x l k. (sym (k.yes b (sym h ∙ q)), k); latest = λ k. k }
-  finds_kept false h q = record { known = λ env x l k. (sym (k.no b (sym h ∙ q)), k); latest = λ k. k }
+  pub finds_kept : {k : Kept} {old : ℕ} (y : Bool) → old ≡ get_or k.answers.now b 0 → old ≡ mark y k.number → Finds q s (λ f. f b) k k y
+  finds_kept true h e = record { known = λ l k. (sym (k.yes b (sym h ∙ e)), k); latest = λ k. k; number = refl }
+  finds_kept false h e = record { known = λ l k. (sym (k.no b (sym h ∙ e)), k); latest = λ k. k; number = refl }
 
   -- the call itself
-  pub finds_call : {kept kept' : List ℕ} → contains bound b ≡ false → ((env : Environment) → TermsHeld env words rows tables → true ≡ asked_call own env bs b) → kept' ≡ set kept b (suc number) → Finds own words rows tables t before bound number (λ f. f b) kept kept' true
-  finds_call {kept} {kept'} h q s = record {
-    known = λ env x l k.
-        let is : true ≡ answer own env bs before bound b = sym (answer_is env l ∙ rw (h, ← q env x)) in
-        (is, rw s (known_more b true is k));
-    latest = λ k. rw s (latest_more b true k);
+  pub finds_call : {k k' : Kept} → contains (set_of q.bound.now) b ≡ false → true ≡ call_asked q s b → k'.number ≡ k.number → k'.answers.now ≡ set k.answers.now b (suc k.number) → Finds q s (λ f. f b) k k' true
+  finds_call {k} {k'} h e n a = record {
+    known = λ l w.
+        let is : true ≡ answer_to q s b = sym (answer_is l ∙ rw (h, ← e)) in
+        (is, rw (n, a) (known_more b true is w));
+    latest = λ w. rw (n, a) (latest_more b true w);
+    number = n;
   }
 
   -- the sources
-  pub finds_through : {kept kept' kept'' : List ℕ} {r : Bool} → contains bound b ≡ false → ((env : Environment) → TermsHeld env words rows tables → false ≡ asked_call own env bs b)
-      → Finds own words rows tables t before bound number (λ f. any f (binding_at bs b).sources) kept kept' r → kept'' ≡ set kept' b (mark r number) → Finds own words rows tables t before bound number (λ f. f b) kept kept'' r
-  finds_through {kept} {kept'} {kept''} {r} h q f s = record {
-    known = λ env x l k.
-        let g = f.known env x l k in
-        let is : r ≡ answer own env bs before bound b = g.0 ∙ sym (answer_is env l ∙ rw (h, ← q env x)) in
-        (is, rw s (known_more b r is g.1));
-    latest = λ k. rw s (latest_more b r (f.latest k));
+  pub finds_through : {k k' k'' : Kept} {r : Bool} → contains (set_of q.bound.now) b ≡ false → false ≡ call_asked q s b → Finds q s (λ f. any f (binding_at (bindings_of s) b).sources) k k' r
+      → k''.number ≡ k'.number → k''.answers.now ≡ set k'.answers.now b (mark r k'.number) → Finds q s (λ f. f b) k k'' r
+  finds_through {k} {k'} {k''} {r} h e f n a = record {
+    known = λ l w.
+        let g = f.known l w in
+        let is : r ≡ answer_to q s b = g.0 ∙ sym (answer_is l ∙ rw (h, ← e)) in
+        (is, rw (n, a) (known_more b r is g.1));
+    latest = λ w. rw (n, a) (latest_more b r (f.latest w));
+    number = n ∙ f.number;
   }
 
 -- SOURCES ONE BY ONE
 
--- from word k of binding b's row on, what is left decides
-pub record Left (own : Bool) (words rows tables : List ℕ) (t : ℕ) (before bound : Marks) (number b : ℕ) (row : List ℕ) (k : ℕ) (kept₀ kept : List ℕ) : Type 0 where
-  pub known : (env : Environment) → TermsHeld env words rows tables → Lower (bindings_in words rows tables t) → Known (answer own env (bindings_in words rows tables t) before bound) number kept₀
-      → (any (answer own env (bindings_in words rows tables t) before bound) (drop k row) ≡ any (answer own env (bindings_in words rows tables t) before bound) (binding_at (bindings_in words rows tables t) b).sources)
-      × Known (answer own env (bindings_in words rows tables t) before bound) number kept
-  pub latest : Latest number kept₀ → Latest number kept
+-- from word i of binding b's row on, what is left decides
+pub record Left (q : Question) (s : Bindings) (b : ℕ) (row : List ℕ) (i : ℕ) (k₀ k : Kept) : Type 0 where
+  pub known : Lower (bindings_of s) → Known (answer_to q s) k₀.number k₀.answers.now
+      → (any (answer_to q s) (drop i row) ≡ any (answer_to q s) (binding_at (bindings_of s) b).sources) × Known (answer_to q s) k.number k.answers.now
+  pub latest : Latest k₀.number k₀.answers.now → Latest k.number k.answers.now
+  pub number : k.number ≡ k₀.number
 
-module _ (own : Bool) (words rows tables : List ℕ) (t : ℕ) (before bound : Marks) (number b : ℕ) (row : List ℕ) (is : row ≡ get_or (table_rows words rows tables t) b []) where
-  abbrev these : List BindingRow
-  these = bindings_in words rows tables t
+any_cons : (f : ℕ → Bool) (row : List ℕ) (i : ℕ) → i < length row → any f (drop i row) ≡ (f (nth row i) || any f (drop (i + 1) row))
+unfolding any
+any_cons f row i h = rw (add-one, drop-cons row i 0 h)
 
-  abbrev Answer : Environment → ℕ → Bool
-  Answer env = answer own env these before bound
+any_end : (f : ℕ → Bool) (row : List ℕ) (i : ℕ) → length row ≤ i → any f (drop i row) ≡ false
+unfolding any
+any_end f row i h = rw (drop_of_length-le row h)
 
-  abbrev Rest : ℕ → List ℕ → List ℕ → Type 0
-  Rest = Left own words rows tables t before bound number b row
+or_true : (x y : Bool) → x ≡ true → (x || y) ≡ true
+or_true x y h = rw h refl
 
-  sources_are : drop 6 row ≡ (binding_at these b).sources
+every_at : (P : ℕ → Bool) (qs : List ℕ) (i : ℕ) → i < length qs → every P qs ≡ true → P (get_or qs i 0) ≡ true
+unfolding every
+every_at P [] i h g = absurd (omega arith)
+every_at P (q ∷ qs) zero h g = and_left (P q) (every P qs) g
+every_at P (q ∷ qs) (suc i) h g = every_at P qs i (omega arith) (and_right (P q) (every P qs) g)
+
+module _ (q : Question) (s : Bindings) (b : ℕ) {row : List ℕ} (is : row ≡ get_or (rows_of s.plan.now s.table) b []) where
+  sources_are : drop 6 row ≡ (binding_at (bindings_of s) b).sources
   unfolding binding_of
-  sources_are = ap (drop 6) is ∙ ap (λ (x : BindingRow). x.sources) (sym (binding_is (table_rows words rows tables t) b))
+  sources_are = ap (drop 6) is ∙ ap (λ (x : BindingRow). x.sources) (sym (binding_is (rows_of s.plan.now s.table) b))
 
-  pub left_start : {kept : List ℕ} → Rest 6 kept kept
-  left_start = record { known = λ env x l k. (ap (any (Answer env)) sources_are, k); latest = λ k. k }
+  pub left_start : {k : Kept} → Left q s b row 6 k k
+  left_start = record { known = λ l k. (ap (any (answer_to q s)) sources_are, k); latest = λ k. k; number = refl }
 
-  any_cons : (f : ℕ → Bool) (k : ℕ) → k < length row → any f (drop k row) ≡ (f (nth row k) || any f (drop (k + 1) row))
-  unfolding any
-  any_cons f k h = rw (add-one, drop-cons row k 0 h)
+  -- each source is below its binding
+  pub left_lower : {i : ℕ} {k₀ k : Kept} → 6 ≤ i → i < length row → b ≤ nth row i → Left q s b row i k₀ k → Left q s b row (i + 1) k₀ k
+  left_lower {i} six h g w = record {
+    known = λ l x.
+        let low : every (λ q. ltb q b) (drop 6 row) ≡ true = ap (every (λ q. ltb q b)) sources_are ∙ l.each b in
+        absurd (omega (arith, ltb-true (nth row i) b (word_low low)));
+    latest = w.latest;
+    number = w.number;
+  }
+    where
+      word_low : every (λ q. ltb q b) (drop 6 row) ≡ true → ltb (nth row i) b ≡ true
+      word_low e =
+          let z : 6 + (i - 6) ≡ i = omega arith in
+          rw (← z) (rw (← get_or-drop 6 row (i - 6) 0) (every_at (λ q. ltb q b) (drop 6 row) (i - 6) (rw length-drop (omega arith)) e))
 
-  any_end : (f : ℕ → Bool) (k : ℕ) → length row ≤ k → any f (drop k row) ≡ false
-  unfolding any
-  any_end f k h = rw (drop_of_length-le row h)
-
-  or_true : (x y : Bool) → x ≡ true → (x || y) ≡ true
-  or_true x y h = rw h refl
-
+module _ {q : Question} {s : Bindings} {b : ℕ} {row : List ℕ} {i : ℕ} {k₀ k : Kept} (w : Left q s b row i k₀ k) where
   -- a source that has it
-  pub left_found : {k : ℕ} {kept₀ kept kept' : List ℕ} → k < length row → Rest k kept₀ kept → Finds own words rows tables t before bound number (λ f. f (nth row k)) kept kept' true → Finds own words rows tables t before bound number (λ f. any f (binding_at these b).sources) kept₀ kept' true
-  left_found {k} h w f = record {
-    known = λ env x l s.
-        let u = w.known env x l s in
-        let v = f.known env x l u.1 in
-        (sym (sym u.0 ∙ any_cons (Answer env) k h ∙ or_true _ _ (sym v.0)), v.1);
-    latest = λ s. f.latest (w.latest s);
+  pub left_found : {k' : Kept} → i < length row → Finds q s (λ f. f (nth row i)) k k' true → Finds q s (λ f. any f (binding_at (bindings_of s) b).sources) k₀ k' true
+  left_found h f = record {
+    known = λ l x.
+        let u = w.known l x in
+        let v = f.known l u.1 in
+        (sym (sym u.0 ∙ any_cons (answer_to q s) row i h ∙ or_true _ _ (sym v.0)), v.1);
+    latest = λ x. f.latest (w.latest x);
+    number = f.number ∙ w.number;
   }
 
   -- a source that has not
-  pub left_next : {k : ℕ} {kept₀ kept kept' : List ℕ} → k < length row → Rest k kept₀ kept → Finds own words rows tables t before bound number (λ f. f (nth row k)) kept kept' false → Rest (k + 1) kept₀ kept'
-  left_next {k} h w f = record {
-    known = λ env x l s.
-        let u = w.known env x l s in
-        let v = f.known env x l u.1 in
-        (sym (any_cons (Answer env) k h ∙ rw (← v.0) refl) ∙ u.0, v.1);
-    latest = λ s. f.latest (w.latest s);
+  pub left_next : {k' : Kept} → i < length row → Finds q s (λ f. f (nth row i)) k k' false → Left q s b row (i + 1) k₀ k'
+  left_next h f = record {
+    known = λ l x.
+        let u = w.known l x in
+        let v = f.known l u.1 in
+        (sym (any_cons (answer_to q s) row i h ∙ rw (← v.0) refl) ∙ u.0, v.1);
+    latest = λ x. f.latest (w.latest x);
+    number = f.number ∙ w.number;
   }
 
-  every_at : (P : ℕ → Bool) (qs : List ℕ) (i : ℕ) → i < length qs → every P qs ≡ true → P (get_or qs i 0) ≡ true
-  unfolding every
-  every_at P [] i h g = absurd (omega arith)
-  every_at P (q ∷ qs) zero h g = and_left (P q) (every P qs) g
-  every_at P (q ∷ qs) (suc i) h g = every_at P qs i (omega arith) (and_right (P q) (every P qs) g)
-
-  -- each source is below its binding
-  pub left_lower : {k : ℕ} {kept₀ kept : List ℕ} → 6 ≤ k → k < length row → (nth row k < b → ⊥) → Rest k kept₀ kept → Rest (k + 1) kept₀ kept
-  left_lower {k} six h g w = record {
-    known = λ env x l s.
-        let low : every (λ q. ltb q b) (drop 6 row) ≡ true = ap (every (λ q. ltb q b)) sources_are ∙ l.each b in
-        absurd (g (ltb-true (nth row k) b (word_low low)));
+  pub left_none : length row ≤ i → Finds q s (λ f. any f (binding_at (bindings_of s) b).sources) k₀ k false
+  left_none h = record {
+    known = λ l x. let u = w.known l x in (sym (any_end (answer_to q s) row i h) ∙ u.0, u.1);
     latest = w.latest;
-  }
-    where
-      word_low : every (λ q. ltb q b) (drop 6 row) ≡ true → ltb (nth row k) b ≡ true
-      word_low e =
-          let z : 6 + (k - 6) ≡ k = omega arith in
-          rw (← z) (rw (← get_or-drop 6 row (k - 6) 0) (every_at (λ q. ltb q b) (drop 6 row) (k - 6) (rw length-drop (omega arith)) e))
-
-  pub left_none : {k : ℕ} {kept₀ kept : List ℕ} → length row ≤ k → Rest k kept₀ kept → Finds own words rows tables t before bound number (λ f. any f (binding_at these b).sources) kept₀ kept false
-  left_none {k} h w = record {
-    known = λ env x l s. let u = w.known env x l s in (sym (any_end (Answer env) k h) ∙ u.0, u.1);
-    latest = w.latest;
+    number = w.number;
   }

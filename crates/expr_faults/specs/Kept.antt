@@ -1,21 +1,26 @@
 -- What is asked of a written expression, and what is kept of the answers. Assumes nothing: these are definitions.
-use Rattle.std.specs.Prelude.{ℕ, suc, ◌≤◌, ◌<◌, ◌≡◌, Bool, true, false, not, ◌&&◌, List, [], map, get_or}
+use Rattle.std.specs.Prelude.{ℕ, suc, ◌≤◌, ◌<◌, ◌≡◌, Bool, true, false, not, ◌&&◌, List, [], map, get_or, Option, Some, None}
+use denote.Bor.{Bor}
 use Rattle.plan.specs.Plan.{Environment}
 use Rattle.plan.specs.Binding.{BindingRow}
-use Rattle.plan.specs.Lookup.{term_at, binding_at}
+use Rattle.plan.specs.Lookup.{binding_at}
 use Rattle.codegen.specs.Writer.{Marks, contains}
-use Rattle.rows.specs.View.{term_of, binding_of}
-use Rattle.view.specs.Tables.{table_rows}
+use Rattle.rows.specs.View.{binding_of}
+use Rattle.view.specs.Buffers.{rows_of, env_of}
+use Rattle.view.specs.declared.buffers.Plan.{Plan}
+use Rattle.emits.specs.Marks.{set_of}
 use Rattle.schedule_rules.specs.Faults.{returns_many}
 use Rattle.schedule_rules.specs.Found.{Lower, found}
-
--- the buffers hold the terms of env
-pub record TermsHeld (env : Environment) (words rows tables : List ℕ) : Type 0 where
-  pub term : (n : ℕ) → term_at env n ≡ term_of (get_or (table_rows words rows tables 6) n [])
+use Rattle.expr_faults.specs.declared.kept.Kept.{Kept}
+use Rattle.expr_faults.specs.declared.written.Bindings.{Bindings}
+use Rattle.expr_faults.specs.declared.written.Question.{Question}
 
 -- the bindings of table t
-abbrev pub bindings_in : List ℕ → List ℕ → List ℕ → ℕ → List BindingRow
-bindings_in words rows tables t = map binding_of (table_rows words rows tables t)
+abbrev pub bindings_in : Plan → ℕ → List BindingRow
+bindings_in p t = map binding_of (rows_of p t)
+
+abbrev pub bindings_of : Bindings → List BindingRow
+bindings_of s = bindings_in s.plan.now s.table
 
 -- what is asked: with `own`, (c)'s name that was not there before; else (b)'s call that returns many
 unfoldable pub asked_name : Bool → Marks → ℕ → Bool
@@ -27,6 +32,24 @@ asked_call own e bs b = not own && returns_many e (binding_at bs b).binding
 -- the answer for binding b
 unfoldable pub answer : Bool → Environment → List BindingRow → Marks → Marks → ℕ → Bool
 answer own e bs before bound b = found (asked_name own before) (asked_call own e bs) bs bound b
+
+-- the same of a question of the code
+abbrev pub is_own : Option (Bor (List Bool)) → Bool
+is_own (Some m) = true
+is_own None = false
+
+abbrev pub names_in : Option (Bor (List Bool)) → Marks
+names_in (Some m) = set_of m.now
+names_in None = []
+
+abbrev pub name_asked : Question → ℕ → Bool
+name_asked q = asked_name (is_own q.before) (names_in q.before)
+
+abbrev pub call_asked : Question → Bindings → ℕ → Bool
+call_asked q s = asked_call (is_own q.before) (env_of s.plan.now) (bindings_of s)
+
+abbrev pub answer_to : Question → Bindings → ℕ → Bool
+answer_to q s = answer (is_own q.before) (env_of s.plan.now) (bindings_of s) (names_in q.before) (set_of q.bound.now)
 
 -- what is kept for a number is the answer: the number itself says no, the next one yes
 pub record Known (f : ℕ → Bool) (number : ℕ) (kept : List ℕ) : Type 0 where
@@ -42,9 +65,8 @@ pub record Fresh (number : ℕ) (kept : List ℕ) : Type 0 where
   pub below : (b : ℕ) → get_or kept b 0 < number
   pub room : number < 4294967295
 
--- of the written expressions of the bindings of table t, where the names are `bound`: r is x of the answers for each binding, and what
--- is kept stays right
-pub record Finds (own : Bool) (words rows tables : List ℕ) (t : ℕ) (before bound : Marks) (number : ℕ) (x : (ℕ → Bool) → Bool) (kept kept' : List ℕ) (r : Bool) : Type 0 where
-  pub known : (env : Environment) → TermsHeld env words rows tables → Lower (bindings_in words rows tables t) → Known (answer own env (bindings_in words rows tables t) before bound) number kept
-      → (r ≡ x (answer own env (bindings_in words rows tables t) before bound)) × Known (answer own env (bindings_in words rows tables t) before bound) number kept'
-  pub latest : Latest number kept → Latest number kept'
+-- r is x of the answers for each binding, the number stays, and what is kept stays right
+pub record Finds (q : Question) (s : Bindings) (x : (ℕ → Bool) → Bool) (k k' : Kept) (r : Bool) : Type 0 where
+  pub known : Lower (bindings_of s) → Known (answer_to q s) k.number k.answers.now → (r ≡ x (answer_to q s)) × Known (answer_to q s) k'.number k'.answers.now
+  pub latest : Latest k.number k.answers.now → Latest k'.number k'.answers.now
+  pub number : k'.number ≡ k.number

@@ -1,3 +1,4 @@
+pub mod Told
 pub mod Stack
 pub mod Walk
 pub mod Accepted

@@ -1,12 +1,15 @@
-// The walk over the rows of a block, with the names at each row. A turn of the loop closes a frame, or judges a row and puts its lines.
+// The walk over the rows of a block, with the names at each row. A turn of the loop closes a frame, or judges a row and puts its lines, so
+// it is no `for` over rows. There is no heap: the stack has a place for each level of an accepted plan.
 ghost use Rattle.std.specs.Prelude.{◌<◌, length};
 ghost use Rattle.faults.specs.Walk.{BlockPut};
 
 use super::line::put_row;
 use emits::stablemapset::empty;
-use expr_faults::raise;
+use expr_faults::kept::Kept;
+use expr_faults::written::Bindings;
 use row_faults::row::judge_row;
 use row_frames::{Purpose, frame_count, purpose_of};
+use text::sink::Sink;
 
 // An open frame: one more than the level of its row (0: the root), and what it is for.
 #[derive(Clone, Copy)]
@@ -15,23 +18,18 @@ pub struct Frame {
     pub purpose: Purpose,
 }
 
-// The lines of the rows from row `first` up to row `last`, the block of a generated term whose bindings are those of table t. Lent is
-// room for the names where each open frame closes.
+// The lines of the rows from row `first` up to row `last`, the block of a generated term with these bindings. Lent is room for the names
+// where each open frame closes.
 pub fn put_block(
-    out: &mut [u8],
-    at: usize,
-    end: usize,
+    w: &mut Sink<'_>,
     scopes: &mut [[bool; 1024]],
-    words: &[u32],
-    rows: &[u32],
-    tables: &[u32],
-    t: usize,
+    bindings: &Bindings<'_>,
     term: usize,
     first: usize,
     last: usize,
-) -> usize
+)
     requires { (last < 4294967296) × (0 < length scopes.old) }
-    ensures { BlockPut end words.now rows.now tables.now t term first last (length scopes.old) out.old at out.new result }
+    ensures { BlockPut bindings.now term first last (length scopes.old) w.old w.new }
 {
     let root = Frame {
         level: 0,
@@ -40,42 +38,37 @@ pub fn put_block(
     let mut stack = [root; 65];
     let mut d = 0;
     let mut bound = empty();
-    let mut kept = [0u32; 1024];
-    let mut number = 2;
+    let mut answers = [0u32; 1024];
+    let mut kept = Kept::new(&mut answers);
     let mut r = first;
-    let mut at = at;
-    while at < end {
+    'rows: while w.at < w.end {
         if last <= r {
-            return at;
+            return;
         }
         let f = stack[d];
-        let purpose = f.purpose;
-        let level = view::wide(view::cell(words, rows, r, 0));
+        let level = view::wide(bindings.plan.cell(r, 0));
         if level < f.level {
             bound = scopes[d];
             d -= 1;
-            number = raise(&mut kept, number);
+            kept.raise();
             continue;
         }
         if 64 <= d {
-            return at;
+            return;
         }
         let top = d + 1;
         if scopes.len() <= top {
-            return at;
+            return;
         }
         let s = judge_row(
-            &mut kept, number, &mut bound, scopes, top, words, rows, tables, t, r, last, purpose,
+            &mut kept, &mut bound, scopes, top, bindings, r, last, f.purpose,
         );
-        let opens = s.opens;
-        at = put_row(out, at, end, term, r - first, s.a, s.b, s.c);
+        put_row(w, term, r - first, s.faults);
         stack[top] = Frame {
             level: level + 1,
-            purpose: purpose_of(opens),
+            purpose: purpose_of(s.opens),
         };
-        d += frame_count(opens);
-        number = s.number;
+        d += frame_count(s.opens);
         r += 1;
     }
-    at
 }

@@ -2,7 +2,7 @@
 use Prim.Native.Nat.{ℕ, suc, ◌+◌, ◌-◌, ◌≤◌, ◌<◌}
 use mathlib.Core.Path.{◌≡◌, refl, sym, ap, ◌∙◌}
 use mathlib.Core.Bool.{Bool, true, false, cond, ◌&&◌}
-use mathlib.Core.List.{List, [], ◌∷◌, ◌++◌, append-nil, append_assoc}
+use mathlib.Core.List.{List, [], ◌∷◌, append-nil, append_assoc}
 use mathlib.Core.Option.{Option, some, none}
 use native.Mathlib.Omega.{arith}
 use native.Mathlib.Numerals.{add-one}
@@ -13,27 +13,27 @@ use lib.Seq.{take-suc-set, append_snoc}
 use Rattle.text.specs.Split.{null, split, same}
 use Rattle.tokens.specs.Token.{until}
 use Rattle.tokens.proofs.Laws.{parts_some, split_more, split_last}
-use Rattle.values.specs.declared.Next.{Next}
-use Rattle.values.specs.declared.Next.TheVariants.{At, No}
 use Rattle.values.specs.Words.{Holds, Wrote}
+use denote.Enum.Bare.{sameb}
+use Rattle.rows.specs.contracts.Table.{the_type}
+use Rattle.rows.specs.declared.Table.{Table}
+use Rattle.rows.specs.declared.Table.TheVariants.{Options, File, Sym, Pos, Types, Variants, Terms, Generated, Bindings, Block}
+use Rattle.rows.specs.Table.{table_number}
 use Rattle.rows.specs.Row.{row_words, header, Within}
 use Rattle.rows.proofs.Size.{sized_words}
 use Rattle.layout.specs.Scan.{Tables, sort_at, names, add, close, last, scan, Fill}
+use Rattle.layout.specs.Filling.{Written}
 use Rattle.layout.specs.declared.Filled.{Filled}
-use Rattle.layout.specs.declared.Filled.TheVariants.{To, Bad}
-
--- A row's words with room for them: they are written, or there are none
-unfoldable pub Written : List ℕ → ℕ → Option (List ℕ) → ℕ → List ℕ → Type 0
-Written old k none m new = ⊥
-Written old k (some ws) m new = (m ≡ k + length ws) × (take m new ≡ take k old ++ ws)
+use Rattle.std.specs.declared.option.Option as rust
+use Rattle.std.specs.Prelude.{Some, None}
 
 module _ (old new : List ℕ) (k hi : ℕ) (room : k + hi ≤ length old) where
-  row_absent : (lo : ℕ) (w : Option (List ℕ)) (r : Next) → Within lo hi w → Holds old (At k) w r new → r ≡ No → w ≡ none
+  row_absent : (lo : ℕ) (w : Option (List ℕ)) (r : rust.Option ℕ) → Within lo hi w → Holds old (Some k) w r new → r ≡ None → w ≡ none
   unfolding Within Holds
   row_absent lo none r s h e = refl
   row_absent lo (some ws) r s h e = let z : ◌≡◌ {A = ℕ} 0 1 = cc (h (omega arith)).0 in absurd (omega arith)
 
-  row_present : (lo m : ℕ) (w : Option (List ℕ)) (r : Next) → Within lo hi w → Holds old (At k) w r new → r ≡ At m → Written old k w m new × (m ≤ k + hi)
+  row_present : (lo m : ℕ) (w : Option (List ℕ)) (r : rust.Option ℕ) → Within lo hi w → Holds old (Some k) w r new → r ≡ Some m → Written old k w m new × (m ≤ k + hi)
   unfolding Within Holds Written
   row_present lo m none r s h e = let z : ◌≡◌ {A = ℕ} 0 1 = cc in absurd (omega arith)
   row_present lo m (some ws) r s h e =
@@ -41,13 +41,12 @@ module _ (old new : List ℕ) (k hi : ℕ) (room : k + hi ≤ length old) where
       let q : m ≡ k + length ws = cc g.0 in
       ((q, rw q g.1), omega arith)
 
-module _ (old new : List ℕ) (k sort from : ℕ) (line : List ℕ) (r : Next) (d : ℕ) (long : length line ≡ d) (some_byte : 0 < d)
-    (m : ℕ) (size : length old ≡ m) (room : k + (d + 1) ≤ m) (wrote : Wrote old (At k) (row_words sort from line) r new) where
-  pub row_none : r ≡ No → row_words sort from line ≡ none
-  row_none e = row_absent old new k (length line + 1) (omega arith) (header sort) _ r (sized_words sort from line (omega arith)).holds wrote.holds e
+module _ (old new : List ℕ) (k sort from : ℕ) (line : List ℕ) (r : rust.Option ℕ) (some_byte : 0 < length line) (room : k + (length line + 1) ≤ length old) (wrote : Wrote old (Some k) (row_words sort from line) r new) where
+  pub row_none : r ≡ None → row_words sort from line ≡ none
+  row_none e = row_absent old new k (length line + 1) room (header sort) _ r (sized_words sort from line some_byte).holds wrote.holds e
 
-  pub row_some : (w : ℕ) → r ≡ At w → Written old k (row_words sort from line) w new × (w ≤ k + (d + 1))
-  row_some w e = rw (← long) (row_present old new k (length line + 1) (omega arith) (header sort) w _ r (sized_words sort from line (omega arith)).holds wrote.holds e)
+  pub row_some : (w : ℕ) → r ≡ Some w → Written old k (row_words sort from line) w new × (w ≤ k + (length line + 1))
+  row_some w e = row_present old new k (length line + 1) room (header sort) w _ r (sized_words sort from line some_byte).holds wrote.holds e
 
 null_some : {A : Type 0} (xs : List A) → 0 < length xs → null xs ≡ false
 null_some [] h = absurd (omega arith)
@@ -60,7 +59,7 @@ module _ (s : List ℕ) (at e j : ℕ) (here : e ≡ at + until 10 (drop at s)) 
   scan_last b h = rw (split_last 10 s at e here h)
 
   module _ (h : e < length s) where
-    line_length : length (take (e - at) (drop at s)) ≡ e - at
+    pub line_length : length (take (e - at) (drop at s)) ≡ e - at
     line_length = rw (length-take, length-drop) (omega arith)
 
     next_line : at + length (take (e - at) (drop at s)) + 1 ≡ e + 1
@@ -120,7 +119,7 @@ scan_inside (l ∷ ls) i at =
       by_test false true p q h g = h
       by_test false false p q h g = g
 
-pub fill_none : (out : List ℕ) (k : ℕ) (index : List ℕ) (n : ℕ) (marks : List ℕ) (j : ℕ) → Fill out k index n marks j (some []) (To k n j) out index marks
+pub fill_none : (out : List ℕ) (k : ℕ) (index : List ℕ) (n : ℕ) (marks : List ℕ) (j : ℕ) → Fill out k index n marks j (some []) (Some (record { words = k; rows = n; tables = j })) out index marks
 unfolding Fill
 fill_none out k index n marks j = record {
   word_end = omega arith;
@@ -131,13 +130,13 @@ fill_none out k index n marks j = record {
   has_tables = sym (append-nil _);
 }
 
-pub fill_close : (out : List ℕ) (k : ℕ) (index : List ℕ) (n : ℕ) (marks : List ℕ) (j : ℕ) (p : Option Tables) (r : Filled) (o x m : List ℕ) → j + 1 < length marks
+pub fill_close : (out : List ℕ) (k : ℕ) (index : List ℕ) (n : ℕ) (marks : List ℕ) (j : ℕ) (p : Option Tables) (r : rust.Option Filled) (o x m : List ℕ) → j + 1 < length marks
     → Fill out k index n (set marks (j + 1) n) (j + 1) p r o x m → Fill out k index n marks j (close p) r o x m
 unfolding Fill close
-fill_close out k index n marks j none Bad o x m h f = f
-fill_close out k index n marks j none (To k' n' j') o x m h f = f
-fill_close out k index n marks j (some ts) Bad o x m h f = f
-fill_close out k index n marks j (some ts) (To k' n' j') o x m h f =
+fill_close out k index n marks j none None o x m h f = f
+fill_close out k index n marks j none (Some f') o x m h f = f
+fill_close out k index n marks j (some ts) None o x m h f = f
+fill_close out k index n marks j (some ts) (Some f') o x m h f =
     let z : n + 0 ≡ n = omega arith in
     record {
       word_end = f.word_end;
@@ -148,16 +147,16 @@ fill_close out k index n marks j (some ts) (To k' n' j') o x m h f =
       has_tables = f.has_tables ∙ rw (z, add-one (j + 1), take-suc-set, append_snoc);
     }
 
-pub fill_add : (out out' : List ℕ) (k w : ℕ) (index : List ℕ) (n : ℕ) (marks : List ℕ) (j : ℕ) (b : Option (List ℕ)) (p : Option Tables) (r : Filled) (o x m : List ℕ)
+pub fill_add : (out out' : List ℕ) (k w : ℕ) (index : List ℕ) (n : ℕ) (marks : List ℕ) (j : ℕ) (b : Option (List ℕ)) (p : Option Tables) (r : rust.Option Filled) (o x m : List ℕ)
     → Inside p → Written out k b w out' → n + 1 < length index
     → Fill out' w (set index (n + 1) w) (n + 1) marks j p r o x m → Fill out k index n marks j (add b p) r o x m
 unfolding Fill add Written
 fill_add out out' k w index n marks j none p r o x m i q h f = absurd q
-fill_add out out' k w index n marks j (some ws) none Bad o x m i q h f = f
-fill_add out out' k w index n marks j (some ws) none (To k' n' j') o x m i q h f = f
+fill_add out out' k w index n marks j (some ws) none None o x m i q h f = f
+fill_add out out' k w index n marks j (some ws) none (Some f') o x m i q h f = f
 fill_add out out' k w index n marks j (some ws) (some []) r o x m i q h f = absurd i
-fill_add out out' k w index n marks j (some ws) (some (t ∷ ts)) Bad o x m i q h f = f
-fill_add out out' k w index n marks j (some ws) (some (t ∷ ts)) (To k' n' j') o x m i (q, v) h f =
+fill_add out out' k w index n marks j (some ws) (some (t ∷ ts)) None o x m i q h f = f
+fill_add out out' k w index n marks j (some ws) (some (t ∷ ts)) (Some f') o x m i (q, v) h f =
     let z : n + suc (length t) ≡ n + 1 + length t = omega arith in
     record {
       word_end = simp length-append (omega (arith, f.word_end));
@@ -218,3 +217,16 @@ same_length (c ∷ s) (d ∷ t) h = by_test (eqb c d) h (λ g. same_length s t g
 
 pub first_long : (l : List ℕ) (sort : ℕ) → same l (names sort) ≡ true → 3 ≤ length l
 first_long l sort h = omega (arith, same_length l (names sort) h, names_long sort)
+
+-- the tables of generated terms, by their sort
+pub is_generated : (t : Table) → sameb the_type t Generated ≡ eqb (table_number t) 7
+is_generated Options = refl
+is_generated File = refl
+is_generated Sym = refl
+is_generated Pos = refl
+is_generated Types = refl
+is_generated Variants = refl
+is_generated Terms = refl
+is_generated Generated = refl
+is_generated Bindings = refl
+is_generated Block = refl

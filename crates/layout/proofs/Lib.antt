@@ -1,4 +1,5 @@
 pub mod Laws
+pub mod Filling
 pub mod Cuts
 pub mod Groups
 pub mod Read

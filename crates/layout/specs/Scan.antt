@@ -1,5 +1,5 @@
 -- A plan line by line, into the words of its tables' rows. Assumes nothing: these are definitions.
-use Rattle.std.specs.Prelude.{ℕ, ◌+◌, ◌-◌, ◌*◌, ◌%◌, ◌≤◌, ◌≡◌, Bool, true, false, cond, not, ◌&&◌, ◌||◌, List, [], ◌∷◌, ◌++◌, map, eqb, ltb, length, take}
+use Rattle.std.specs.Prelude.{Some, None, ℕ, ◌+◌, ◌-◌, ◌*◌, ◌%◌, ◌≤◌, ◌≡◌, Bool, true, false, cond, not, ◌&&◌, ◌||◌, List, [], ◌∷◌, ◌++◌, map, eqb, ltb, length, take}
 use Rattle.std.proofs.Math.Option.{Option, some, none}
 use Rattle.text.specs.Codes.{codes}
 use Rattle.text.specs.Split.{null, split, same}
@@ -7,7 +7,7 @@ use Rattle.plan.specs.Layout.{only, nested, steps}
 use Rattle.rows.specs.Row.{row_words}
 use Rattle.rows.specs.View.{block_of}
 use Rattle.layout.specs.declared.Filled.{Filled}
-use Rattle.layout.specs.declared.Filled.TheVariants.{To, Bad}
+use Rattle.std.specs.declared.option.Option as rust
 
 -- the sort of table i: 0 options, 1 files, 2 syms, 3 positions, 4 types, 5 variants, 6 terms, then again and again 7 the term
 -- to generate, 8 its bindings, 9 its block
@@ -84,13 +84,13 @@ pub record Done (words : List ℕ) (k : ℕ) (rows : List ℕ) (n : ℕ) (tables
   pub table_end : j' ≡ j + length ts
   pub has_tables : take (j' + 1) m ≡ take (j + 1) tables ++ ends n ts
 
-unfoldable pub Fill : List ℕ → ℕ → List ℕ → ℕ → List ℕ → ℕ → Option Tables → Filled → List ℕ → List ℕ → List ℕ → Type 0
-Fill words k rows n tables j none Bad o x m = Unit
-Fill words k rows n tables j none (To k' n' j') o x m = ⊥
-Fill words k rows n tables j (some ts) Bad o x m = ⊥
-Fill words k rows n tables j (some ts) (To k' n' j') o x m = Done words k rows n tables j ts k' n' j' o x m
+unfoldable pub Fill : List ℕ → ℕ → List ℕ → ℕ → List ℕ → ℕ → Option Tables → rust.Option Filled → List ℕ → List ℕ → List ℕ → Type 0
+Fill words k rows n tables j none None o x m = Unit
+Fill words k rows n tables j none (Some f) o x m = ⊥
+Fill words k rows n tables j (some ts) None o x m = ⊥
+Fill words k rows n tables j (some ts) (Some f) o x m = Done words k rows n tables j ts f.words f.rows f.tables o x m
 
 -- no more words than bytes, few rows and tables, and none begun
-abbrev pub Whole : ℕ → Filled → Type 0
-Whole len Bad = Unit
-Whole len (To k n j) = (k ≤ len) × (2 * n ≤ len) × (4 * j ≤ len) × (sort_at j ≡ 7)
+abbrev pub Whole : ℕ → rust.Option Filled → Type 0
+Whole len None = Unit
+Whole len (Some f) = (f.words ≤ len) × (2 * f.rows ≤ len) × (4 * f.tables ≤ len) × (sort_at f.tables ≡ 7)

@@ -4,111 +4,150 @@
 ghost use Rattle.std.specs.Prelude.{◌≡◌, false, ◌+◌, ◌-◌, ◌*◌, ◌≤◌, ◌<◌, eqb, length};
 ghost use Rattle.text.specs.Split.{split, same};
 ghost use Rattle.layout.specs.Scan.{sort_at, names, scan, Fill, Whole};
+ghost use Rattle.layout.specs.Filling.{SameBuffers, Put, Ended, HasRoom, PutTable};
+ghost use Rattle.rows.specs.Row.{row_words};
+ghost use Rattle.values.specs.Words.{Wrote};
+ghost use Rattle.rows.specs.Table.{table_number};
 
-use values::Next;
+use rows::Table;
+use values::Words;
 
-// How many words, rows and tables were written, or that the plan is not laid out as it should be.
-#[derive(Clone, Copy)]
-pub enum Filled {
-    To(usize, usize, usize),
-    Bad,
+// How many words, rows and tables stand at the fronts of the buffers.
+#[derive(Clone, Copy, Debug, Default, PartialEq, Eq)]
+pub struct Filled {
+    pub words: usize,
+    pub rows: usize,
+    pub tables: usize,
 }
 
-// The sort of table i.
+// The buffers into which a plan is read, and how much of each is filled: the words of all rows, where each row ends, and where each
+// table's rows end. The caller lends them: what a plan can hold is limited, and nothing is allocated (document 01).
+#[derive(Drop)]
+pub struct Buffers<'a> {
+    pub words: &'a mut [u32],
+    pub rows: &'a mut [u32],
+    pub tables: &'a mut [u32],
+    pub filled: Filled,
+}
+
+// The sort of table i: seven of the whole plan, then three for each generated term.
 #[tactic(auto, unfolding(crate::specs::Scan::sort_at))]
-pub fn sort_at(i: usize) -> usize
-    ensures { result ≡ sort_at i }
+pub fn table_at(i: usize) -> Table
+    ensures { table_number result ≡ sort_at i }
 {
-    if i < 7 {
-        return i;
+    match i {
+        0 => Table::Options,
+        1 => Table::File,
+        2 => Table::Sym,
+        3 => Table::Pos,
+        4 => Table::Types,
+        5 => Table::Variants,
+        6 => Table::Terms,
+        _ => match (i - 7) % 3 {
+            0 => Table::Generated,
+            1 => Table::Bindings,
+            _ => Table::Block,
+        },
     }
-    7 + (i - 7) % 3
 }
 
-// Whether a line is the names line of a sort of table.
-fn is_names(sort: usize, l: &[u8]) -> bool
-    ensures { result ≡ same l.now (names sort) }
+// The names line of a sort of table.
+#[tactic(auto, unfolding(crate::specs::Scan::names))]
+fn names(table: Table) -> &'static [u8]
+    ensures { result.now ≡ names (table_number table) }
 {
-    if sort == 0 {
-        return tokens::equal(l, b"nopragmas log split threshold");
+    match table {
+        Table::Options => b"nopragmas log split threshold",
+        Table::File => b"file",
+        Table::Sym => b"sym",
+        Table::Pos => b"pos",
+        Table::Types => b"kind name extern nodebug pos list",
+        Table::Variants => b"type name shape list",
+        Table::Terms => b"name pos ret multi partial ctor xtor infallible list",
+        Table::Generated => b"term",
+        Table::Bindings => b"kind a b list",
+        Table::Block => b"level kind a b list",
     }
-    if sort == 1 {
-        return tokens::equal(l, b"file");
-    }
-    if sort == 2 {
-        return tokens::equal(l, b"sym");
-    }
-    if sort == 3 {
-        return tokens::equal(l, b"pos");
-    }
-    if sort == 4 {
-        return tokens::equal(l, b"kind name extern nodebug pos list");
-    }
-    if sort == 5 {
-        return tokens::equal(l, b"type name shape list");
-    }
-    if sort == 6 {
-        return tokens::equal(l, b"name pos ret multi partial ctor xtor infallible list");
-    }
-    if sort == 7 {
-        return tokens::equal(l, b"term");
-    }
-    if sort == 8 {
-        return tokens::equal(l, b"kind a b list");
-    }
-    tokens::equal(l, b"level kind a b list")
 }
 
-// Writes the words of all rows to words, where each row ends to rows, and where each table's rows end to tables.
-pub fn fill(s: &[u8], words: &mut [u32], rows: &mut [u32], tables: &mut [u32]) -> Filled
-    requires { (length s.now ≤ 65536) × (length s.now ≤ length words.old) × (length s.now + 2 ≤ 2 * length rows.old) × (length s.now + 4 ≤ 4 * length tables.old) }
-    ensures fill { Fill words.old 0 rows.old 0 tables.old 0
-        (scan 0 false 0 (split (eqb 10) s.now)) result words.new rows.new tables.new }
-    ensures whole { Whole (length s.now) result }
+// Writes a row's words from a place of a buffer on: where they end.
+fn put_words(table: Table, from: usize, line: &[u8], out: &mut [u32], at: usize) -> Option<usize>
+    requires { from + length line.now < 4294967296 }
+    ensures { Wrote out.old (Some at) (row_words (table_number table) from line.now) result out.new }
 {
-    let mut at = 0;
-    let mut k = 0;
-    let mut n = 0;
-    let mut j = 0;
-    let mut inside = false;
-    loop {
-        let e = tokens::find_far(s, at, 10);
-        let sort = sort_at(j);
-        if e == s.len() {
-            if e != at {
-                return Filled::Bad;
-            }
-            if inside {
-                return Filled::Bad;
-            }
-            if sort != 7 {
-                return Filled::Bad;
-            }
-            return Filled::To(k, n, j);
+    let mut words = Words { out, at };
+    rows::put_row(table, from, line, &mut words)?;
+    Some(words.at)
+}
+
+impl Buffers<'_> {
+    // Writes a row's words, and where they end.
+    fn put_row(&mut self, table: Table, from: usize, line: &[u8]) -> Option<()>
+        requires { (0 < length line.now) × (from + length line.now ≤ 65536) × (self.old.filled.words + length line.now + 1 ≤ length self.old.words.now)
+            × (self.old.filled.words ≤ from) × (self.old.filled.rows + 1 < length self.old.rows.now) }
+        ensures same { SameBuffers self.old self.new }
+        ensures row { Put self.old self.new (row_words (table_number table) from line.now) (length line.now) result }
+    {
+        let at = self.filled.words;
+        let end = put_words(table, from, line, self.words, at)?;
+        self.filled.words = end;
+        self.filled.rows += 1;
+        self.rows[self.filled.rows] = end as u32;
+        Some(())
+    }
+
+    // Ends a table behind the rows that were written.
+    fn end_table(&mut self)
+        requires { (self.old.filled.tables + 1 < length self.old.tables.now) × (self.old.filled.rows ≤ 65536) }
+        ensures same { SameBuffers self.old self.new }
+        ensures ended { Ended self.old self.new }
+    {
+        self.filled.tables += 1;
+        self.tables[self.filled.tables] = self.filled.rows as u32;
+    }
+
+    // Writes a table: its names line, its rows, and the empty line that ends it. Where the next one begins.
+    fn put_table(&mut self, s: &[u8], start: usize) -> Option<usize>
+        requires { (start < length s.now) × HasRoom s.now start self.old }
+        ensures same { SameBuffers self.old self.new }
+        ensures table { PutTable s.now start self.old self.new result }
+    {
+        let table = table_at(self.filled.tables);
+        let e = tokens::find_far(s, start, b'\n');
+        if e == s.len() || !tokens::equal(&s[start..e], names(table)) {
+            return None;
         }
-        let next = e + 1;
-        if inside {
+        let mut at = e + 1;
+        // The lines are cut by hand: a text row keeps its place in the plan, which an iterator over lines does not give.
+        loop {
+            let e = tokens::find_far(s, at, b'\n');
+            if e == s.len() {
+                return None;
+            }
             if e == at {
-                j += 1;
-                tables[j] = n as u32;
-                inside = false;
-                at = next;
-            } else {
-                let r = rows::put_row(sort, at, &s[at..e], words, Next::At(k));
-                let Next::At(w) = r else {
-                    return Filled::Bad;
-                };
-                n += 1;
-                rows[n] = w as u32;
-                k = w;
-                at = next;
+                self.end_table();
+                return Some(e + 1);
             }
-        } else {
-            if !is_names(sort, &s[at..e]) {
-                return Filled::Bad;
-            }
-            inside = true;
-            at = next;
+            self.put_row(table, at, &s[at..e])?;
+            at = e + 1;
         }
+    }
+
+    // Writes the words of all rows to words, where each row ends to rows, and where each table's rows end to tables.
+    pub fn fill(&mut self, s: &[u8]) -> Option<Filled>
+        requires { (length s.now ≤ 65536) × (length s.now ≤ length self.old.words.now)
+            × (length s.now + 2 ≤ 2 * length self.old.rows.now) × (length s.now + 4 ≤ 4 * length self.old.tables.now) }
+        ensures same { SameBuffers self.old self.new }
+        ensures fill { Fill self.old.words.now 0 self.old.rows.now 0 self.old.tables.now 0
+            (scan 0 false 0 (split (eqb 10) s.now)) result self.new.words.now self.new.rows.now self.new.tables.now }
+        ensures whole { Whole (length s.now) result }
+    {
+        self.filled = Filled::default();
+        let mut at = 0;
+        while at < s.len() {
+            at = self.put_table(s, at)?;
+        }
+        let is_whole = table_at(self.filled.tables) == Table::Generated;
+        is_whole.then_some(self.filled)
     }
 }

@@ -13,7 +13,8 @@ ghost use Rattle.literal.specs.Quote.{quoted};
 use literal::builtin_type::BuiltinType;
 use literal::literal::{emit_int, is_odd};
 use literal::quote::put_quoted;
-use text::number::{put_decimal, put_signed};
+use text::number::{Wide, put_decimal};
+use text::sink::Sink;
 
 #[unsafe(no_mangle)]
 pub extern "C" fn rizhavel_put_decimal(out: &mut [u8], at: usize, end: usize, n: u64) -> usize
@@ -32,14 +33,28 @@ pub extern "C" fn rizhavel_put_signed(
 ) -> usize
     ensures { Puts end (signed 128 (high * 2 ^ 64 + low)) out.old at out.new result }
 {
-    put_signed(out, at, end, high, low)
+    let mut w = Sink {
+        out,
+        at,
+        end,
+        odd: 0,
+    };
+    w.put_signed(Wide { high, low });
+    w.at
 }
 
 #[unsafe(no_mangle)]
 pub extern "C" fn rizhavel_put_quoted(out: &mut [u8], at: usize, end: usize, text: &[u8]) -> usize
     ensures { Puts end (quoted text.now) out.old at out.new result }
 {
-    put_quoted(out, at, end, text)
+    let mut w = Sink {
+        out,
+        at,
+        end,
+        odd: 0,
+    };
+    put_quoted(&mut w, text);
+    w.at
 }
 
 // The literal of a value of the builtin type with the number ty.
@@ -54,8 +69,14 @@ pub extern "C" fn rizhavel_emit_int(
 ) -> usize
     ensures { Puts end (literal (builtin_int (get_or all ty BuiltinType.Bool)) (high * 2 ^ 64 + low)) out.old at out.new result }
 {
-    let builtin = BuiltinType::from_index(ty);
-    emit_int(out, at, end, builtin, high, low)
+    let mut w = Sink {
+        out,
+        at,
+        end,
+        odd: 0,
+    };
+    emit_int(&mut w, BuiltinType::from_index(ty), Wide { high, low });
+    w.at
 }
 
 // 1 if the literal is odd.
@@ -63,9 +84,5 @@ pub extern "C" fn rizhavel_emit_int(
 pub extern "C" fn rizhavel_is_odd(ty: usize, high: u64, low: u64) -> u8
     ensures { result ≡ cond (odd (builtin_int (get_or all ty BuiltinType.Bool)) (high * 2 ^ 64 + low)) 1 0 }
 {
-    let builtin = BuiltinType::from_index(ty);
-    if is_odd(builtin, high, low) {
-        return 1;
-    }
-    0
+    is_odd(BuiltinType::from_index(ty), Wide { high, low }).into()
 }

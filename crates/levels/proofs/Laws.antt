@@ -1,10 +1,10 @@
 -- Laws of levels and of the tables' rows. Assumes nothing.
-use Prim.Native.Nat.{ℕ, zero, suc, ◌+◌, ◌-◌, ◌≤◌, ◌<◌}
+use Prim.Native.Nat.{ℕ, zero, suc, ◌+◌, ◌≤◌, ◌<◌}
 use mathlib.Core.Path.{◌≡◌, refl, ap, ◌∙◌}
 use mathlib.Core.Bool.{Bool, true, false, cond, ◌||◌}
 use mathlib.Core.List.{List, [], ◌∷◌, ◌++◌, map}
 use native.Mathlib.Omega.{arith}
-use lib.Dec.{eqb, ltb}
+use lib.Dec.{eqb, ltb, leb}
 use lib.ListN.{length, take, set, get_or, length-map, get_or-map}
 use lib.Seq.{take-take, take-suc-set, length-take-le, get_or-take}
 use borrow.Author.Tests.{ne_eqb, lt-ltb, le-ltb, le-leb, lt-leb, ltb-true, ltb-false}
@@ -17,7 +17,8 @@ use Rattle.rows.specs.View.{nth, block_of, step_made}
 use Rattle.layout.specs.Scan.{sort_at, table_shaped, shaped}
 use Rattle.layout.specs.View.{cuts}
 use Rattle.view.proofs.Laws.{cuts_length}
-use Rattle.levels.specs.Level.{below_at, stands, below_code}
+use Rattle.levels.specs.Level.{below_at, stands, below_code, code, stored}
+use Rattle.levels.specs.declared.Below.TheVariants.{Steps, Arms, Nothing}
 
 -- A ROW'S WORDS
 
@@ -61,6 +62,15 @@ below_law ws = by_kind (ltb (nth ws 1) 4) refl where
   by_kind : (b : Bool) → ltb (nth ws 1) 4 ≡ b → below (block_of ws) ≡ below_at (below_code (nth ws 1))
   by_kind true e = rw e (step_below (nth ws 1) (ltb-true (nth ws 1) 4 e) _ _ _ _)
   by_kind false e = rw e (arm_below (nth ws 1) (ltb-false (nth ws 1) 4 e) _ _ _)
+
+-- what is stored is what is read
+pub stands_stored : (n k : ℕ) → stands (code (stored n)) k ≡ stands n k
+unfolding stands
+stands_stored n k = by_number (eqb n 1) (eqb n 2) where
+  by_number : (b d : Bool) → stands (code (cond b Arms (cond d Nothing Steps))) k ≡ cond b (leb 4 k) (cond d false (ltb k 4))
+  by_number true d = refl
+  by_number false true = refl
+  by_number false false = refl
 
 -- LEVELS
 

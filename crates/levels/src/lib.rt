@@ -4,105 +4,110 @@
 ghost use Rattle.std.specs.Prelude.{◌≡◌, ◌+◌, ◌-◌, ◌≤◌, ◌<◌, [], ◌∷◌, map, length};
 ghost use Rattle.plan.specs.Layout.{nested, steps};
 ghost use Rattle.rows.specs.View.{block_of};
+ghost use Rattle.rows.specs.Table.{table_number};
 ghost use Rattle.layout.specs.Scan.{table_shaped, shaped};
 ghost use Rattle.layout.specs.View.{cuts, tables_of, Indexed};
-ghost use Rattle.levels.specs.Level.{stands, below_code};
+ghost use Rattle.levels.specs.Level.{stands, below_code, code, stored};
 
-// Whether a row of a kind may stand where a code says what may.
-fn may_stand(code: u8, kind: u32) -> bool
-    ensures { result ≡ stands code kind }
-{
-    if code == 1 {
-        return 4 <= kind;
-    }
-    if code == 2 {
-        return false;
-    }
-    kind < 4
+use rows::Table;
+use view::buffers::Plan;
+
+// What may stand at a level next. The levels of a block are kept in bytes that are lent, and serve as a draft of the text later: each is
+// stored as its number there.
+#[derive(Clone, Copy)]
+enum Below {
+    Steps,
+    Arms,
+    Nothing,
 }
 
-// The code of what may stand below a row of a kind.
-#[tactic(auto, unfolding(crate::specs::Level::below_code))]
-fn below(kind: u32) -> u8
-    ensures { result ≡ below_code kind }
-{
-    if kind == 0 {
-        return 1;
+impl Below {
+    // What may stand below a row of a kind, a word of the buffers: 0 is a `match`, 3 a `return`, and arms are from 4 on.
+    #[tactic(auto, unfolding(crate::specs::Level::below_code))]
+    fn of(kind: u32) -> Below
+        ensures { code result ≡ below_code kind }
+    {
+        match kind {
+            0 => Below::Arms,
+            3 => Below::Nothing,
+            _ => Below::Steps,
+        }
     }
-    if kind == 3 {
-        return 2;
+
+    // Whether a row of a kind may stand there.
+    #[tactic(auto, unfolding(crate::specs::Level::stands))]
+    fn allows(self, kind: u32) -> bool
+        ensures { result ≡ stands (code self) kind }
+    {
+        match self {
+            Below::Steps => kind < 4,
+            Below::Arms => 4 <= kind,
+            Below::Nothing => false,
+        }
     }
-    0
+
+    fn code(self) -> u8
+        ensures { result ≡ code self }
+    {
+        self as u8
+    }
+}
+
+impl From<u8> for Below {
+    ghost from_gives = { λ n below. below ≡ stored n };
+
+    fn from(n: u8) -> Below {
+        match n {
+            1 => Below::Arms,
+            2 => Below::Nothing,
+            _ => Below::Steps,
+        }
+    }
 }
 
 // Whether the rows of a block nest. above has what may stand at each level next.
-fn levels_fit(words: &[u32], rows: &[u32], from: usize, to: usize, above: &mut [u8]) -> bool
+fn levels_fit(plan: &Plan<'_>, from: usize, to: usize, above: &mut [u8]) -> bool
     requires { (from ≤ to) × (to + 2 ≤ length above.old) × (to ≤ 65536) }
-    ensures { result ≡ nested (steps ∷ []) (map block_of (cuts words.now rows.now from (to - from))) }
+    ensures { result ≡ nested (steps ∷ []) (map block_of (cuts plan.now.words.now plan.now.rows.now from (to - from))) }
 {
-    above[0] = 0;
+    above[0] = Below::Steps.code();
     let mut depth = 1;
-    let mut r = from;
-    while r < to {
-        let level = view::word(words, rows, r, 0);
-        let kind = view::cell(words, rows, r, 1);
-        if depth <= level {
+    for r in from..to {
+        let level = plan.word(r, 0);
+        let kind = plan.cell(r, 1);
+        if depth <= level || !Below::from(above[level]).allows(kind) {
             return false;
         }
-        if !may_stand(above[level], kind) {
-            return false;
-        }
-        above[level + 1] = below(kind);
+        above[level + 1] = Below::of(kind).code();
         depth = level + 2;
-        r += 1;
     }
     true
 }
 
 // Whether a table has the rows that its sort asks for.
-fn table_fits(
-    sort: usize,
-    words: &[u32],
-    rows: &[u32],
-    from: usize,
-    to: usize,
-    above: &mut [u8],
-) -> bool
+#[tactic(auto, using(view::proofs::Laws::cuts_length), unfolding(layout::specs::Scan::table_shaped))]
+fn table_fits(plan: &Plan<'_>, table: Table, from: usize, to: usize, above: &mut [u8]) -> bool
     requires { (from ≤ to) × (to + 2 ≤ length above.old) × (to ≤ 65536) }
-    ensures { result ≡ table_shaped sort (cuts words.now rows.now from (to - from)) }
+    ensures { result ≡ table_shaped (table_number table) (cuts plan.now.words.now plan.now.rows.now from (to - from)) }
 {
-    if sort == 0 {
-        return to - from == 1;
+    match table {
+        Table::Options | Table::Generated => to - from == 1,
+        Table::Block => levels_fit(plan, from, to, above),
+        _ => true,
     }
-    if sort == 7 {
-        return to - from == 1;
-    }
-    if sort == 9 {
-        return levels_fit(words, rows, from, to, above);
-    }
-    true
 }
 
 // Whether each table has the rows that its sort asks for.
-pub fn all_fit(
-    words: &[u32],
-    rows: &[u32],
-    tables: &[u32],
-    n: usize,
-    j: usize,
-    above: &mut [u8],
-) -> bool
-    requires { Indexed tables.now n j × (n + 2 ≤ length above.old) × (n ≤ 65536) × (j ≤ 65536) }
-    ensures { result ≡ shaped 0 (tables_of words.now rows.now tables.now n j) }
+pub fn all_fit(plan: &Plan<'_>, rows: usize, tables: usize, above: &mut [u8]) -> bool
+    requires { Indexed plan.now.tables.now rows tables × (rows + 2 ≤ length above.old) × (rows ≤ 65536) × (tables ≤ 65536) }
+    ensures { result ≡ shaped 0 (tables_of plan.now.words.now plan.now.rows.now plan.now.tables.now rows tables) }
 {
-    let mut i = 0;
-    while i < j {
-        let from = view::bound(tables, i);
-        let to = view::bound(tables, i + 1);
-        if !table_fits(layout::sort_at(i), words, rows, from, to, above) {
+    for t in 0..tables {
+        let from = plan.first_row(t);
+        let to = plan.first_row(t + 1);
+        if !table_fits(plan, layout::table_at(t), from, to, above) {
             return false;
         }
-        i += 1;
     }
     true
 }

@@ -4,78 +4,92 @@
 ghost use Rattle.std.specs.Prelude.{◌≡◌, ◌+◌, ◌-◌, eqb};
 ghost use Rattle.std.proofs.Math.Option.{some};
 ghost use Rattle.text.specs.Split.{split};
-ghost use Rattle.plan.specs.Layout.{◌⊛◌, field, pattern_binding};
+ghost use Rattle.plan.specs.Layout.{◌⊛◌, number, field, pattern_binding};
 ghost use Rattle.tokens.specs.Token.{told};
-ghost use Rattle.values.specs.Words.{Wrote};
+ghost use Rattle.values.specs.Words.{word};
+ghost use Rattle.values.specs.Writes.{Writes};
 ghost use Rattle.lists.specs.Items.{pattern_word, field_words, item, items, list_words};
+ghost use Rattle.lists.specs.Lists.{list_number, sort_number};
 
-use tokens::Number;
-use values::Next;
+use values::Words;
+
+// What a list's items are. No list is `None` of it: with a fourth kind here the loop over the items jumps by a table, which is slower.
+#[derive(Clone, Copy)]
+pub enum ListOf {
+    Numbers,
+    Fields,
+    Patterns,
+}
 
 // An arm's binding: a number, or `_` for none.
-fn read_pattern_binding(t: &[u8]) -> Number
+fn read_pattern_binding(t: &[u8]) -> Option<u32>
     ensures { result ≡ told (some pattern_word ⊛ pattern_binding t.now) }
 {
     if tokens::equal(t, b"_") {
-        return Number::Value(65537);
+        return Some(65537);
     }
     tokens::read_number(t)
 }
 
-// Writes a named field: the number of its name, and that of its type.
-fn put_field(t: &[u8], out: &mut [u32], at: Next) -> Next
-    ensures { Wrote out.old at (some field_words ⊛ field t.now) result out.new }
+// Writes a number.
+#[tactic(auto, using(values::proofs::Laws::writes_none, values::proofs::Laws::word_none, values::proofs::Laws::word_some))]
+fn put_number(t: &[u8], words: &mut Words<'_>) -> Option<()>
+    ensures { Writes (word (number t.now)) words.old result words.new }
 {
-    let e = tokens::find(t, 0, 58);
+    words.push(tokens::read_number(t)?)
+}
+
+// Writes a named field: the number of its name, and that of its type.
+fn put_field(t: &[u8], words: &mut Words<'_>) -> Option<()>
+    ensures { Writes (some field_words ⊛ field t.now) words.old result words.new }
+{
+    let e = tokens::find(t, 0, b':');
     if e == t.len() {
-        return Next::No;
+        return None;
     }
     let next = e + 1;
-    if tokens::find(t, next, 58) != t.len() {
-        return Next::No;
+    if tokens::find(t, next, b':') != t.len() {
+        return None;
     }
-    let p = values::put(tokens::read_number(&t[0..e]), out, at);
-    values::put(tokens::read_number(&t[next..]), out, p)
+    put_number(&t[..e], words)?;
+    put_number(&t[next..], words)
 }
 
 // Writes an item of a list.
-fn put_item(sort: u32, t: &[u8], out: &mut [u32], at: Next) -> Next
-    ensures { Wrote out.old at (item sort t.now) result out.new }
+#[tactic(auto, using(values::proofs::Laws::writes_none, values::proofs::Laws::word_none, values::proofs::Laws::word_some), unfolding(crate::specs::Items::item))]
+fn put_item(list: ListOf, t: &[u8], words: &mut Words<'_>) -> Option<()>
+    ensures { Writes (item (list_number list) t.now) words.old result words.new }
 {
-    if sort == 1 {
-        return values::put(tokens::read_number(t), out, at);
+    match list {
+        ListOf::Numbers => put_number(t, words),
+        ListOf::Fields => put_field(t, words),
+        ListOf::Patterns => words.push(read_pattern_binding(t)?),
     }
-    if sort == 2 {
-        return put_field(t, out, at);
-    }
-    if sort == 3 {
-        return values::put(read_pattern_binding(t), out, at);
-    }
-    Next::No
 }
 
 // Writes the items that stand between commas.
-fn put_items(sort: u32, t: &[u8], out: &mut [u32], at: Next) -> Next
-    ensures { Wrote out.old at (items sort (split (eqb 44) t.now)) result out.new }
+fn put_items(list: ListOf, t: &[u8], words: &mut Words<'_>) -> Option<()>
+    ensures { Writes (items (list_number list) (split (eqb 44) t.now)) words.old result words.new }
 {
     let mut i = 0;
-    let mut p = at;
     loop {
-        let e = tokens::find(t, i, 44);
-        p = put_item(sort, &t[i..e], out, p);
+        let e = tokens::find(t, i, b',');
+        put_item(list, &t[i..e], words)?;
         if e == t.len() {
-            return p;
+            return Some(());
         }
         i = e + 1;
     }
 }
 
-// Writes a list.
-pub fn put_list(sort: u32, t: &[u8], out: &mut [u32], at: Next) -> Next
-    ensures { Wrote out.old at (list_words sort t.now) result out.new }
+// Writes a list, of no items where there is no sort for them.
+#[tactic(auto, unfolding(crate::specs::Items::list_words))]
+pub fn put_list(list: Option<ListOf>, t: &[u8], words: &mut Words<'_>) -> Option<()>
+    ensures { Writes (list_words (sort_number list) t.now) words.old result words.new }
 {
     if tokens::equal(t, b"-") {
-        return at;
+        return Some(());
     }
-    put_items(sort, t, out, at)
+    let list = list?;
+    put_items(list, t, words)
 }

@@ -1,7 +1,8 @@
 -- How the code casts a value, which it has in two halves of 64 bits. Assumes nothing.
 use Rattle.std.specs.Prelude.{ℕ, suc, ◌+◌, ◌-◌, ◌*◌, ◌%◌, ◌^◌, ◌≤◌, ◌<◌, ◌≡◌, refl, Bool, true, false, cond, ◌&&◌, ◌++◌, leb, ltb, eqb}
 use Rattle.std.proofs.Common.{sym, ap, ◌∙◌, add-zero, mul_assoc, mod-eq_of_lt, mul-le-mul_right, lt_of_lt_of_le, mod-lt, arith, lit≤, le-leb, lt-ltb, le-ltb, ltb-true, ltb-false, eqb-true, eq-eqb}
-use Rattle.std.proofs.lemmas.Bool.{false≢true, lt-leb}
+use Rattle.std.proofs.lemmas.Bool.{lt-leb}
+use Rattle.std.proofs.Math.Bool.{and-eq-true_iff}
 use Rattle.std.proofs.Math.Nat.{mul-add-mod_self_right, pow-le-pow_right, two-pow-succ, one-le-pow}
 use Rattle.text.specs.Codes.{codes}
 use Rattle.text.specs.Digits.{hexadecimal, signed}
@@ -107,19 +108,15 @@ module _ (t f : IntType) (high low high' low' : ℕ) (sign : is_signed f ≡ is_
   unchanged : in_range t (high * 2 ^ 64 + low) ≡ true → high' * 2 ^ 64 + low' ≡ high * 2 ^ 64 + low
   unchanged i = extends ∙ read_back_value t (high * 2 ^ 64 + low) i (wide_fits high low high_fits low_fits)
 
-  pub in_range_low : high' ≡ high → eqb low' low ≡ in_range t (high * 2 ^ 64 + low)
-  in_range_low q = same_test (eqb low' low) (in_range t (high * 2 ^ 64 + low)) forth back
+  pub in_range_cast : (eqb high' high && eqb low' low) ≡ in_range t (high * 2 ^ 64 + low)
+  in_range_cast = same_test (eqb high' high && eqb low' low) (in_range t (high * 2 ^ 64 + low)) forth back
     where
-      forth : eqb low' low ≡ true → in_range t (high * 2 ^ 64 + low) ≡ true
+      forth : (eqb high' high && eqb low' low) ≡ true → in_range t (high * 2 ^ 64 + low) ≡ true
       forth e =
-          let p : low' ≡ low = eqb-true low' low e in
-          read_back_outside t (high * 2 ^ 64 + low) (sym extends ∙ rw (q, p))
+          let p = (and-eq-true_iff (eqb high' high) (eqb low' low)).0 e in
+          read_back_outside t (high * 2 ^ 64 + low) (sym extends ∙ rw (eqb-true high' high p.0, eqb-true low' low p.1))
 
-      back : in_range t (high * 2 ^ 64 + low) ≡ true → eqb low' low ≡ true
-      back i = let u : high' * 2 ^ 64 + low' ≡ high * 2 ^ 64 + low = unchanged i in eq-eqb low' low (omega arith)
-
-  pub in_range_high : (high' ≡ high → ⊥) → false ≡ in_range t (high * 2 ^ 64 + low)
-  in_range_high n = same_test false (in_range t (high * 2 ^ 64 + low)) (λ e. absurd (false≢true e)) back
-    where
-      back : in_range t (high * 2 ^ 64 + low) ≡ true → false ≡ true
-      back i = let u : high' * 2 ^ 64 + low' ≡ high * 2 ^ 64 + low = unchanged i in absurd (n (omega arith))
+      back : in_range t (high * 2 ^ 64 + low) ≡ true → (eqb high' high && eqb low' low) ≡ true
+      back i =
+          let u : high' * 2 ^ 64 + low' ≡ high * 2 ^ 64 + low = unchanged i in
+          rw (eq-eqb high' high (omega arith), eq-eqb low' low (omega arith))

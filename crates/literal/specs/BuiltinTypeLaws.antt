@@ -51,7 +51,7 @@ names_differ t u e =
     let p : some t ≡ some u = sym (known_by_name t) ∙ ap (λ (n : String). with_name all (codes n)) e ∙ known_by_name u in
     cc
 
--- The names as the code has them: one after another with a space between, and where each begins.
+-- The names one after another with a space between, and where each begins.
 abbrev pub names : List ℕ
 names = codes "bool u8 u16 u32 u64 u128 usize i8 i16 i32 i64 i128 isize"
 

@@ -1,12 +1,12 @@
 // `IntType` and `BuiltinType` of sema.rs. The type itself gives its count, order, name and signedness.
 ghost use Rattle.std.specs.Prelude.{◌≡◌, get_or};
 ghost use Rattle.text.specs.Codes.{codes};
-ghost use Rattle.text.specs.Sink.{Puts};
+ghost use Rattle.text.specs.Writes.{Writes};
 ghost use Rattle.literal.specs.BuiltinType.{all, int_name, name, is_signed, to_usize};
 
-use text::sink::put_part;
+use text::sink::Sink;
 
-#[derive(Clone, Copy)]
+#[derive(Clone, Copy, PartialEq, Eq)]
 pub enum IntType {
     U8,
     U16,
@@ -22,37 +22,51 @@ pub enum IntType {
     ISize,
 }
 
-#[derive(Clone, Copy)]
+#[derive(Clone, Copy, PartialEq, Eq)]
 pub enum BuiltinType {
     Bool,
     Int(IntType),
 }
 
 impl IntType {
-    // The name, put into the sink.
-    pub fn put_name(self, out: &mut [u8], at: usize, end: usize) -> usize
-        ensures { Puts end (codes (int_name self)) out.old at out.new result }
+    pub fn name(self) -> &'static [u8]
+        ensures { result.now ≡ codes (int_name self) }
     {
-        BuiltinType::Int(self).put_name(out, at, end)
+        match self {
+            IntType::U8 => b"u8",
+            IntType::U16 => b"u16",
+            IntType::U32 => b"u32",
+            IntType::U64 => b"u64",
+            IntType::U128 => b"u128",
+            IntType::USize => b"usize",
+            IntType::I8 => b"i8",
+            IntType::I16 => b"i16",
+            IntType::I32 => b"i32",
+            IntType::I64 => b"i64",
+            IntType::I128 => b"i128",
+            IntType::ISize => b"isize",
+        }
+    }
+
+    // The name, put into the sink.
+    pub fn put_name(self, w: &mut Sink<'_>)
+        ensures { Writes (codes (int_name self)) w.old w.new }
+    {
+        w.put_bytes(self.name());
     }
 
     pub fn is_signed(self) -> bool
         ensures { result ≡ is_signed self }
     {
-        match self {
-            IntType::U8 => false,
-            IntType::U16 => false,
-            IntType::U32 => false,
-            IntType::U64 => false,
-            IntType::U128 => false,
-            IntType::USize => false,
-            IntType::I8 => true,
-            IntType::I16 => true,
-            IntType::I32 => true,
-            IntType::I64 => true,
-            IntType::I128 => true,
-            IntType::ISize => true,
-        }
+        matches!(
+            self,
+            IntType::I8
+                | IntType::I16
+                | IntType::I32
+                | IntType::I64
+                | IntType::I128
+                | IntType::ISize
+        )
     }
 }
 
@@ -75,18 +89,14 @@ impl BuiltinType {
         BuiltinType::Int(IntType::ISize),
     ];
 
-    // Where each name begins in the list of names, and the place after the last.
-    const STARTS: [usize; 14] = [0, 5, 8, 12, 16, 20, 25, 31, 34, 38, 42, 46, 51, 57];
-
     // The type with the number i; a number past the last one is given the first, which is no integer type.
     pub fn from_index(i: usize) -> BuiltinType
         ensures { result ≡ get_or all i BuiltinType.Bool }
     {
-        if i < BuiltinType::COUNT {
-            let all = BuiltinType::ALL;
-            return all[i];
+        match BuiltinType::ALL.get(i) {
+            Some(ty) => *ty,
+            None => BuiltinType::Bool,
         }
-        BuiltinType::Bool
     }
 
     // The number of the type: its place in `ALL`.
@@ -95,36 +105,17 @@ impl BuiltinType {
     {
         match self {
             BuiltinType::Bool => 0,
-            BuiltinType::Int(ty) => match ty {
-                IntType::U8 => 1,
-                IntType::U16 => 2,
-                IntType::U32 => 3,
-                IntType::U64 => 4,
-                IntType::U128 => 5,
-                IntType::USize => 6,
-                IntType::I8 => 7,
-                IntType::I16 => 8,
-                IntType::I32 => 9,
-                IntType::I64 => 10,
-                IntType::I128 => 11,
-                IntType::ISize => 12,
-            },
+            BuiltinType::Int(ty) => 1 + ty as usize,
         }
     }
 
     // The name, put into the sink.
-    pub fn put_name(self, out: &mut [u8], at: usize, end: usize) -> usize
-        ensures { Puts end (codes (name self)) out.old at out.new result }
+    pub fn put_name(self, w: &mut Sink<'_>)
+        ensures { Writes (codes (name self)) w.old w.new }
     {
-        let i = self.to_usize();
-        let starts = BuiltinType::STARTS;
-        put_part(
-            out,
-            at,
-            end,
-            b"bool u8 u16 u32 u64 u128 usize i8 i16 i32 i64 i128 isize",
-            starts[i],
-            starts[i + 1] - 1,
-        )
+        match self {
+            BuiltinType::Bool => w.put_bytes(b"bool"),
+            BuiltinType::Int(ty) => ty.put_name(w),
+        }
     }
 }

@@ -1,17 +1,18 @@
 -- The lines fit into the buffer, and what the entries answer is what is printed. Assumes nothing.
 use Prim.Native.Nat.{ℕ, zero, suc, ◌+◌, ◌-◌, ◌/◌, ◌^◌, ◌≤◌, ◌<◌}
-use mathlib.Core.Path.{◌≡◌, refl, sym, ap, ◌∙◌}
+use mathlib.Core.Path.{◌≡◌, refl}
 use mathlib.Core.Bool.{Bool, true, false, cond}
-use mathlib.Core.List.{List, [], ◌∷◌, ◌++◌}
+use mathlib.Core.List.{List}
 use native.Mathlib.Omega.{arith}
-use lib.Dec.{ltb, leb, eqb}
+use lib.Dec.{ltb, leb}
 use lib.ListN.{length, take, drop, length-append}
 use lib.Seq.{take-append_seam}
 use borrow.Author.Tests.{ltb-false, ne_eqb}
-use Rattle.text.specs.Codes.{codes}
 use Rattle.text.specs.Digits.{digits, decimal}
 use Rattle.text.specs.DigitsLaws.{part_less, places, forty_places}
 use Rattle.text.specs.Sink.{Puts}
+use Rattle.text.specs.Writes.{Writes}
+use Rattle.text.specs.declared.sink.Sink.{Sink}
 use Rattle.text.specs.SinkLaws.{puts_fit, puts_written}
 use Rattle.plan.specs.Plan.{Plan}
 use Rattle.plan.specs.Refusal.{Outcome, refused, accepted, outcome}
@@ -19,9 +20,12 @@ use Rattle.codegen.specs.Piece.{render}
 use Rattle.codegen.specs.Items.{items}
 use Rattle.codegen.specs.Terms.{terms_text, odds}
 use Rattle.codegen.specs.Answer.{Answer, refuse, answer_of, answer, terms_answer, whole_text}
-use Rattle.emitter.specs.Answered.{Answers, items_answer}
-use Rattle.emitter.specs.declared.Emitted.{Emitted}
-use Rattle.emitter.specs.declared.Emitted.TheVariants.{Refused, Text}
+use Rattle.std.specs.Prelude.{Ok, Err, Some, None}
+use Rattle.refusal.specs.Number.{number, refusal_number}
+use Rattle.refusal.specs.declared.Refusal.{Refusal}
+use Rattle.refusal.specs.declared.Refusal.TheVariants as refusal
+use Rattle.emitter.specs.declared.Text.{Text}
+use Rattle.emitter.specs.Answered.{Emitted, Answers, items_answer}
 use Rattle.programs.specs.Printed.{refused_line, accepted_line, verdict, printed, count_line, counted, shown}
 
 -- LENGTHS
@@ -44,11 +48,11 @@ decimal_length : (n : ℕ) → n < 18446744073709551616 → length (decimal n) �
 unfolding decimal
 decimal_length n h = digits_length (suc n) n 40 (omega arith) (forty_places 10 n (omega arith) h)
 
-refused_length : (n : ℕ) → n < 18446744073709551616 → length (refused_line n) ≤ 65536
+pub refused_length : (n : ℕ) → n < 18446744073709551616 → length (refused_line n) ≤ 65536
 unfolding refused_line
 refused_length n h = simp length-append (omega (arith, decimal_length n h))
 
-count_length : (n l k : ℕ) → n < 18446744073709551616 → l < 18446744073709551616 → k < 18446744073709551616 → length (count_line n l k) ≤ 65536
+pub count_length : (n l k : ℕ) → n < 18446744073709551616 → l < 18446744073709551616 → k < 18446744073709551616 → length (count_line n l k) ≤ 65536
 unfolding count_line
 count_length n l k h g i = simp length-append (omega (arith, decimal_length n h, decimal_length l g, decimal_length k i))
 
@@ -59,15 +63,13 @@ first_bytes {t} {o} {o'} {n} p h l =
     let q : n ≡ length t = omega arith in
     rw (q, puts_written p (omega arith) (omega arith)) (take-append_seam t (drop (0 + length t) o))
 
-pub refusal_put : {n : ℕ} {o o' : List ℕ} {k : ℕ} → n < 18446744073709551616 → Puts 65537 (refused_line n) o 0 o' k → length o ≡ 65536 → take k o' ≡ refused_line n
-refusal_put {n} h p l = first_bytes p (refused_length n h) l
+-- a line that a sink has put from the buffer's start
+pub line_put : {t : List ℕ} {w w' : Sink} → w.end ≡ 65537 → w.at ≡ 0 → Writes t w w' → length t ≤ 65536 → length w.out.now ≡ 65536 → take w'.at w'.out.now ≡ t
+line_put e a q h l = first_bytes (rw (e, a) at q.puts) h l
 
-pub accepted_put : {o o' : List ℕ} {k : ℕ} → Puts 65537 accepted_line o 0 o' k → length o ≡ 65536 → take k o' ≡ accepted_line
+pub accepted_length : length accepted_line ≤ 65536
 unfolding accepted_line
-accepted_put p l = first_bytes p (omega arith) l
-
-pub counts_put : {n l k : ℕ} {o o' : List ℕ} {i : ℕ} → n < 18446744073709551616 → l < 18446744073709551616 → k < 18446744073709551616 → Puts 65537 (count_line n l k) o 0 o' i → length o ≡ 65536 → take i o' ≡ count_line n l k
-counts_put {n} {l} {k} h g i p e = first_bytes p (count_length n l k h g i) e
+accepted_length = omega arith
 
 -- ANSWERS
 
@@ -83,8 +85,8 @@ sized text room (accepted p) = go (leb (length (text p)) room)
 
 shown_is : {a : Answer} {r : Emitted} {before after : List ℕ} → length a.text ≡ a.length → Answers a r before after → shown r after ≡ printed a
 unfolding printed
-shown_is {r = Refused n} s p = rw (← p.written, p.number)
-shown_is {a} {r = Text l k} {before} s p = rw (← p.written, p.bytes, p.length, ← s) (take-append_seam a.text (drop (length a.text) before))
+shown_is {r = Err n} s p = rw (← p.written, p.number)
+shown_is {a} {r = Ok t} {before} s p = rw (← p.written, p.bytes, p.length, ← s) (take-append_seam a.text (drop (length a.text) before))
 
 module _ (plan : List ℕ) {room : ℕ} {r : Emitted} {before after : List ℕ} (e : room ≡ 65536) where
   pub whole_printed : Answers (answer plan room) r before after → shown r after ≡ printed (answer plan 65536)
@@ -100,17 +102,31 @@ module _ (plan : List ℕ) {room : ℕ} {r : Emitted} {before after : List ℕ} 
   items_printed p = shown_is (sized (λ q. render q.env 0 (items q)) 65536 (outcome plan)) (rw e at p)
 
 -- the numbers of an answer
-pub refused_counted : (plan : List ℕ) {room n : ℕ} {before after : List ℕ} → room ≡ 65536 → Answers (answer plan room) (Refused n) before after → count_line n 0 0 ≡ counted (answer plan 65536)
-refused_counted plan e p = let q : Answers (answer plan 65536) (Refused _) _ _ = rw e at p in rw (← q.number, ← q.length, ← q.count) refl
+pub refused_counted : (plan : List ℕ) {room : ℕ} {r : Refusal} {before after : List ℕ} → room ≡ 65536 → Answers (answer plan room) (Err r) before after → count_line (number r) 0 0 ≡ counted (answer plan 65536)
+refused_counted plan {r = r} e p = let q : Answers (answer plan 65536) (Err r) _ _ = rw e at p in rw (← q.number, ← q.length, ← q.count) refl
 
-pub text_counted : (plan : List ℕ) {room l k : ℕ} {before after : List ℕ} → room ≡ 65536 → Answers (answer plan room) (Text l k) before after → count_line 0 l k ≡ counted (answer plan 65536)
-text_counted plan e p = let q : Answers (answer plan 65536) (Text _ _) _ _ = rw e at p in rw (← q.number, ← q.length, ← q.count) refl
+pub text_counted : (plan : List ℕ) {room : ℕ} {t : Text} {before after : List ℕ} → room ≡ 65536 → Answers (answer plan room) (Ok t) before after → count_line 0 t.length t.count ≡ counted (answer plan 65536)
+text_counted plan {t = t} e p = let q : Answers (answer plan 65536) (Ok t) _ _ = rw e at p in rw (← q.number, ← q.length, ← q.count) refl
 
--- the line that is printed of a plan's lowest refusal, n
-pub none_refused : {n m : ℕ} → n ≡ m → n ≡ 0 → accepted_line ≡ verdict m
+-- a refusal has a number above 0
+some_number : (r : Refusal) → number r ≡ 0 → ⊥
+some_number refusal.TooLong h = absurd (omega arith)
+some_number refusal.Byte h = absurd (omega arith)
+some_number refusal.Layout h = absurd (omega arith)
+some_number refusal.Most h = absurd (omega arith)
+some_number refusal.Exists h = absurd (omega arith)
+some_number refusal.Lengths h = absurd (omega arith)
+some_number refusal.Lower h = absurd (omega arith)
+some_number refusal.Returns h = absurd (omega arith)
+some_number refusal.Armless h = absurd (omega arith)
+some_number refusal.Loop h = absurd (omega arith)
+some_number refusal.Room h = absurd (omega arith)
+
+-- the line that is printed of a plan's lowest refusal
+pub none_refused : {m : ℕ} → refusal_number None ≡ m → accepted_line ≡ verdict m
 unfolding verdict
-none_refused e z = rw (← e, z) refl
+none_refused e = rw (← e) refl
 
-pub one_refused : {n m : ℕ} → n ≡ m → (n ≡ 0 → ⊥) → refused_line n ≡ verdict m
+pub one_refused : (r : Refusal) {m : ℕ} → refusal_number (Some r) ≡ m → refused_line (number r) ≡ verdict m
 unfolding verdict
-one_refused {n} e h = rw (← e, ne_eqb n 0 h) refl
+one_refused r e = rw (← e, ne_eqb (number r) 0 (some_number r)) refl

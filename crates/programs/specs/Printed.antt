@@ -1,10 +1,10 @@
 -- What the programs print. Assumes nothing: these are definitions.
-use Rattle.std.specs.Prelude.{ℕ, cond, List, [], ◌∷◌, ◌++◌, eqb, take}
+use Rattle.std.specs.Prelude.{ℕ, cond, List, [], ◌∷◌, ◌++◌, eqb, take, Ok, Err}
 use Rattle.text.specs.Codes.{codes}
 use Rattle.text.specs.Digits.{decimal}
 use Rattle.codegen.specs.Answer.{Answer}
-use Rattle.emitter.specs.declared.Emitted.{Emitted}
-use Rattle.emitter.specs.declared.Emitted.TheVariants.{Refused, Text}
+use Rattle.refusal.specs.Number.{number}
+use Rattle.emitter.specs.Answered.{Emitted}
 
 -- document 01, "the line `refused N`", with its LF
 unfoldable pub refused_line : ℕ → List ℕ
@@ -30,5 +30,5 @@ counted a = count_line a.number a.length a.count
 
 -- the same as `printed`, of an entry's result and its buffer
 abbrev pub shown : Emitted → List ℕ → List ℕ
-shown (Refused n) out = refused_line n
-shown (Text l k) out = take l out
+shown (Err r) out = refused_line (number r)
+shown (Ok t) out = take t.length out

@@ -7,51 +7,54 @@ ghost use Rattle.emitter.specs.Answered.{items_answer};
 ghost use Rattle.plan.specs.Refusal.{refusal};
 ghost use Rattle.programs.specs.Printed.{refused_line, accepted_line, verdict, printed, count_line, counted, shown};
 
-use emitter::Emitted;
+use emitter::Text;
+use refusal::Refusal;
 use std::io;
 use std::io::{ErrorKind, Print, Read};
-use text::number::put_decimal;
-use text::sink::{put_byte, put_bytes};
+use text::sink::Sink;
 
 // The line `refused N`.
-fn put_refusal(out: &mut [u8], number: u32) -> usize
-    ensures { length out.old ≡ 65536 → take result out.new ≡ refused_line number }
+fn put_refusal(out: &mut [u8], n: u32) -> usize
+    ensures { length out.old ≡ 65536 → take result out.new ≡ refused_line n }
 {
-    let word = put_bytes(out, 0, 65537, b"refused ");
-    let digits = put_decimal(out, word, 65537, number as u64);
-    put_byte(out, digits, 65537, 10)
+    let mut w = Sink::new(out, 65537);
+    w.put_bytes(b"refused ");
+    w.put_decimal(n as u64);
+    w.put_byte(b'\n');
+    w.at
 }
 
 // The line `accepted`.
 fn put_accepted(out: &mut [u8]) -> usize
     ensures { length out.old ≡ 65536 → take result out.new ≡ accepted_line }
 {
-    let word = put_bytes(out, 0, 65537, b"accepted");
-    put_byte(out, word, 65537, 10)
+    let mut w = Sink::new(out, 65537);
+    w.put_bytes(b"accepted");
+    w.put_byte(b'\n');
+    w.at
 }
 
 // The line `number length count`.
 fn put_counts(out: &mut [u8], number: u32, size: usize, count: usize) -> usize
     ensures { length out.old ≡ 65536 → take result out.new ≡ count_line number size count }
 {
-    let first = put_decimal(out, 0, 65537, number as u64);
-    let space = put_bytes(out, first, 65537, b" ");
-    let second = put_decimal(out, space, 65537, size as u64);
-    let space = put_bytes(out, second, 65537, b" ");
-    let third = put_decimal(out, space, 65537, count as u64);
-    put_byte(out, third, 65537, 10)
+    let mut w = Sink::new(out, 65537);
+    w.put_decimal(number as u64);
+    w.put_byte(b' ');
+    w.put_decimal(size as u64);
+    w.put_byte(b' ');
+    w.put_decimal(count as u64);
+    w.put_byte(b'\n');
+    w.at
 }
 
 // The text, which stands in the buffer, or the line `refused N`, which is put there: a refusal left the buffer unused.
-fn put_shown(r: Emitted, out: &mut [u8]) -> usize
+fn put_shown(r: Result<Text, Refusal>, out: &mut [u8]) -> usize
     ensures { length out.old ≡ 65536 → take result out.new ≡ shown r out.old }
 {
     match r {
-        Emitted::Refused { number } => put_refusal(out, number),
-        Emitted::Text {
-            length,
-            count: _count,
-        } => length,
+        Ok(text) => text.length,
+        Err(refusal) => put_refusal(out, refusal.number()),
     }
 }
 
@@ -80,10 +83,9 @@ pub fn items(plan: &[u8], out: &mut [u8; 65536]) -> usize
 pub fn count(plan: &[u8], out: &mut [u8; 65536]) -> usize
     ensures { take result out.new ≡ counted (answer plan.now 65536) }
 {
-    let r = emitter::emit(plan, out);
-    match r {
-        Emitted::Refused { number } => put_counts(out, number, 0, 0),
-        Emitted::Text { length, count } => put_counts(out, 0, length, count),
+    match emitter::emit(plan, out) {
+        Ok(text) => put_counts(out, 0, text.length, text.count),
+        Err(refusal) => put_counts(out, refusal.number(), 0, 0),
     }
 }
 
@@ -91,11 +93,10 @@ pub fn count(plan: &[u8], out: &mut [u8; 65536]) -> usize
 pub fn accept(plan: &[u8], out: &mut [u8; 65536]) -> usize
     ensures { take result out.new ≡ verdict (refusal plan.now) }
 {
-    let number = refusals::refused(plan);
-    if number == 0 {
-        return put_accepted(out);
+    match refusals::refused(plan) {
+        None => put_accepted(out),
+        Some(refusal) => put_refusal(out, refusal.number()),
     }
-    put_refusal(out, number)
 }
 
 // The first n bytes.

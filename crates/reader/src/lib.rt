@@ -1,31 +1,30 @@
 // A plan's bytes into the reader's buffers: refusals 1 to 3.
 #![tactic(auto)]
 
-ghost use Rattle.std.specs.Prelude.{◌≡◌};
+ghost use Rattle.std.specs.Prelude.{◌≡◌, ◌<◌, length};
 ghost use Rattle.plan.specs.Refusal.{allowed, bytes_allowed};
-ghost use Rattle.reader.specs.Reading.{reading, Room, Says, Keeps};
+ghost use Rattle.layout.specs.Filling.{SameBuffers};
+ghost use Rattle.reader.specs.Reading.{reading, Room, Says, KeepsBuffers, Views, IsHeld};
 
-use layout::Filled;
-use tokens::both;
+use layout::Buffers;
+use refusal::Refusal;
+use view::buffers::Plan;
 
-// The number of a refusal, or how many rows and tables the buffers hold.
-#[derive(Clone, Copy)]
-pub enum Laid {
-    Refused(u32),
-    Held(usize, usize),
+// How many bytes a plan has at most.
+const LONGEST: usize = 65536;
+
+// How many rows and tables the buffers hold.
+#[derive(Clone, Copy, Debug, PartialEq, Eq)]
+pub struct Held {
+    pub rows: usize,
+    pub tables: usize,
 }
 
 // Whether a byte is allowed in a plan.
 fn is_allowed(c: u8) -> bool
     ensures { result ≡ allowed c }
 {
-    if c == 10 {
-        return true;
-    }
-    if c < 32 {
-        return false;
-    }
-    c <= 126
+    matches!(c, b'\n' | 0x20..=0x7e)
 }
 
 // Whether each byte is allowed in a plan. All are looked at, since a loop without a way out takes many bytes at a time.
@@ -33,40 +32,63 @@ fn all_allowed(s: &[u8]) -> bool
     ensures { result ≡ bytes_allowed s.now }
 {
     let mut good = true;
-    let mut i = 0;
-    while i < s.len() {
-        good = both(good, is_allowed(s[i]));
-        i += 1;
+    for c in s {
+        good &= is_allowed(*c);
     }
     good
 }
 
+// What the buffers hold, as a plan's buffers; its variants are not indexed.
+fn view_of<'a>(bytes: &'a [u8], buffers: &'a Buffers<'_>) -> Plan<'a>
+    ensures { Views bytes.now buffers.now result }
+{
+    Plan {
+        bytes,
+        words: &*buffers.words,
+        rows: &*buffers.rows,
+        tables: &*buffers.tables,
+        index: &[],
+    }
+}
+
+// The plan that the buffers hold in so many tables; its variants are not indexed.
+pub fn plan_held<'a>(bytes: &'a [u8], buffers: &'a Buffers<'_>, tables: usize) -> Plan<'a>
+    requires { tables < length buffers.now.tables.now }
+    ensures { IsHeld bytes.now buffers.now tables result }
+{
+    let whole = view_of(bytes, buffers);
+    let end = tables + 1;
+    Plan {
+        tables: &whole.tables[..end],
+        ..whole
+    }
+}
+
 // Reads a plan into buffers that are long enough for it; `above` is used for the levels of blocks. The refusals 1 and 2 change
 // nothing in them.
-pub fn read_into(
-    plan: &[u8],
-    words: &mut [u32],
-    rows: &mut [u32],
-    tables: &mut [u32],
-    above: &mut [u8],
-) -> Laid
-    requires { Room plan.now words.old rows.old tables.old above.old }
-    ensures { Says (reading plan.now) plan.now result words.new rows.new tables.new × Keeps 2 result words.old words.new × Keeps 2 result rows.old rows.new × Keeps 2 result tables.old tables.new }
+pub fn read_into(plan: &[u8], buffers: &mut Buffers<'_>, above: &mut [u8]) -> Result<Held, Refusal>
+    requires { Room plan.now buffers.old.words.now buffers.old.rows.now buffers.old.tables.now above.old }
+    ensures same { SameBuffers buffers.old buffers.new }
+    ensures says { Says (reading plan.now) plan.now result buffers.new.words.now buffers.new.rows.now buffers.new.tables.now }
+    ensures keeps { KeepsBuffers 2 result buffers.old buffers.new }
 {
-    if 65536 < plan.len() {
-        return Laid::Refused(1);
+    if LONGEST < plan.len() {
+        return Err(Refusal::TooLong);
     }
     if !all_allowed(plan) {
-        return Laid::Refused(2);
+        return Err(Refusal::Byte);
     }
-    rows[0] = 0;
-    tables[0] = 0;
-    let f = layout::fill(plan, words, rows, tables);
-    let Filled::To(_, n, j) = f else {
-        return Laid::Refused(3);
+    buffers.rows[0] = 0;
+    buffers.tables[0] = 0;
+    let Some(filled) = buffers.fill(plan) else {
+        return Err(Refusal::Layout);
     };
-    if !levels::all_fit(words, rows, tables, n, j, above) {
-        return Laid::Refused(3);
+    let laid = view_of(plan, buffers);
+    if !levels::all_fit(&laid, filled.rows, filled.tables, above) {
+        return Err(Refusal::Layout);
     }
-    Laid::Held(n, j)
+    Ok(Held {
+        rows: filled.rows,
+        tables: filled.tables,
+    })
 }

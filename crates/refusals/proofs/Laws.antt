@@ -12,11 +12,16 @@ use Rattle.plan.specs.Plan.{Plan}
 use Rattle.plan.specs.Layout.{read}
 use Rattle.plan.specs.Refusal.{fits_length, bytes_allowed, Outcome, refused, accepted, judged, laid_out, outcome, number_of, refusal, within_most, all_exist, lengths_fit, sources_lower, returns_fit, matches_have_arms, loops_iterate}
 use Rattle.reader.specs.Reading.{of_layout, reading, Holding, Says, Keeps}
-use Rattle.reader.specs.declared.Laid.{Laid}
-use Rattle.reader.specs.declared.Laid.TheVariants.{Refused, Held}
+use Rattle.reader.specs.declared.Held.{Held}
+use Rattle.refusal.specs.declared.Refusal.{Refusal}
+use Rattle.refusal.specs.declared.Refusal.TheVariants.{TooLong, Byte, Layout, Most, Exists, Lengths, Lower, Returns, Armless, Loop, Room}
+use Rattle.refusal.specs.Number as refusal
+use Rattle.refusal.specs.Number.{result_number, refusal_number}
+use Rattle.std.specs.Result.{result_err}
+use Rattle.std.specs.declared.result.Result as rust
+use Rattle.std.specs.Prelude.{Ok, Err}
 use Rattle.view.specs.Tables.{plan_in}
 use Rattle.variants.specs.Index.{VariantIndex}
-use Rattle.refusals.specs.Answered.{answered, Indexes}
 use Rattle.view.proofs.Held.{plan_is}
 
 -- what the checks 4 to 10 make of a plan
@@ -45,6 +50,22 @@ result p =
     (turned 5 (omega arith)))
     (turned 4 (omega arith))
 
+-- a refusal has a number
+some_number : (r : Refusal) → refusal.number r ≡ 0 → ⊥
+some_number r e = absurd (omega (arith, numbered r)) where
+  numbered : (r : Refusal) → 0 < refusal.number r
+  numbered TooLong = omega arith
+  numbered Byte = omega arith
+  numbered Layout = omega arith
+  numbered Most = omega arith
+  numbered Exists = omega arith
+  numbered Lengths = omega arith
+  numbered Lower = omega arith
+  numbered Returns = omega arith
+  numbered Armless = omega arith
+  numbered Loop = omega arith
+  numbered Room = omega arith
+
 abbrev go_on : Outcome → Outcome
 go_on (refused n) = refused n
 go_on (accepted p) = judged p
@@ -58,63 +79,75 @@ outcome_is s = by_tests (fits_length s) (bytes_allowed s) (read s) where
   by_tests true false p = refl
   by_tests false b p = refl
 
-module _ (s words rows tables : List ℕ) where
-  pub says_early : (n : ℕ) → Says (reading s) s (Refused n) words rows tables → Says (outcome s) s (Refused n) words rows tables
-  unfolding Says
-  says_early n h = rw (sym (outcome_is s)) (by_outcome (reading s) h) where
-    by_outcome : (o : Outcome) → Says o s (Refused n) words rows tables → Says (go_on o) s (Refused n) words rows tables
-    by_outcome (refused m) h = h
-    by_outcome (accepted p) h = absurd h
+-- a refusal of the reader
+pub says_early : (s words rows tables : List ℕ) (r : Refusal) → Says (reading s) s (Err r) words rows tables → Says (outcome s) s (Err r) words rows tables
+unfolding Says
+says_early s words rows tables r h = rw (sym (outcome_is s)) (by_outcome (reading s) h) where
+  by_outcome : (o : Outcome) → Says o s (Err r) words rows tables → Says (go_on o) s (Err r) words rows tables
+  by_outcome (refused m) h = h
+  by_outcome (accepted p) h = absurd h
 
-  by_result : {p : Plan} {o : Outcome} (n j : ℕ) → Result p o → Holding p s words rows tables n j → Says o s (answered (number_of o) n j) words rows tables
-  unfolding Says answered
-  by_result n j passes h = h
-  by_result n j (turned k g) h = rw (ne_eqb k 0 (λ q. absurd (omega arith))) refl
-
-  pub held : (o : Outcome) (n j : ℕ) → Says o s (Held n j) words rows tables → j < length tables
+-- the plan that was read, and what the checks 4 to 10 make of it
+module _ (s words rows tables : List ℕ) (n : Held) (h : Says (reading s) s (Ok n) words rows tables) where
+  pub held : n.tables < length tables
   unfolding Says
-  held (refused m) n j h = absurd h
-  held (accepted p) n j h = h.held
-
-  pub says_late : (n j r : ℕ) → Says (reading s) s (Held n j) words rows tables
-      → r ≡ number_of (judged (plan_in s words rows (take (j + 1) tables))) → Says (outcome s) s (answered r n j) words rows tables
-  unfolding Says
-  says_late n j r h q = rw (sym (outcome_is s)) (by_outcome (reading s) h) where
-    by_outcome : (o : Outcome) → Says o s (Held n j) words rows tables → Says (go_on o) s (answered r n j) words rows tables
+  held = by_outcome (reading s) h where
+    by_outcome : (o : Outcome) → Says o s (Ok n) words rows tables → n.tables < length tables
     by_outcome (refused m) h = absurd h
-    by_outcome (accepted p) h =
-        let e : r ≡ number_of (judged p) = q ∙ ap (λ (p : Plan). number_of (judged p)) (sym (plan_is words rows tables n j h.index h.held s) ∙ h.is) in
-        rw e (by_result n j (result p) h)
+    by_outcome (accepted p) h = h.held
 
--- what a number of the checks 4 to 10 leaves of a buffer is free
-pub keeps_late : (m r n j : ℕ) (p : Plan) (before after : List ℕ) → m ≤ 3 → r ≡ number_of (judged p) → Keeps m (answered r n j) before after
-unfolding answered
-keeps_late m r n j p before after h e = rw e (by_checks (result p))
-  where
-    by_checks : {o : Outcome} → Result p o → Keeps m (cond (eqb (number_of o) 0) (Held n j) (Refused (number_of o))) before after
-    by_checks passes = tt
-    by_checks (turned k g) = rw (ne_eqb k 0 (λ q. absurd (omega arith))) (λ q. absurd (omega arith))
+  module _ (k : ℕ) (e : k ≡ number_of (judged (plan_in s words rows (take (n.tables + 1) tables)))) where
+    judged_is : (p : Plan) → Holding p s words rows tables n.rows n.tables → k ≡ number_of (judged p)
+    judged_is p g = e ∙ ap (λ (p : Plan). number_of (judged p)) (sym (plan_is words rows tables n.rows n.tables g.index g.held s) ∙ g.is)
 
--- the index of variants
-pub indexes_none : (n : ℕ) (words rows tables index : List ℕ) → Indexes (Refused n) words rows tables index
-unfolding Indexes
-indexes_none n words rows tables index = tt
+    pub says_late : (r : Refusal) → refusal.number r ≡ k → Says (outcome s) s (Err r) words rows tables
+    unfolding Says
+    says_late r q = rw (sym (outcome_is s)) (by_outcome (reading s) h) where
+      by_outcome : (o : Outcome) → Says o s (Ok n) words rows tables → Says (go_on o) s (Err r) words rows tables
+      by_outcome (refused m) h = absurd h
+      by_outcome (accepted p) g = by_result (result p) (judged_is p g)
+        where
+          by_result : {o : Outcome} → Result p o → k ≡ number_of o → Says o s (Err r) words rows tables
+          by_result passes z = absurd (some_number r (q ∙ z))
+          by_result (turned m g) z = q ∙ z
 
-pub indexes_held : (r n j : ℕ) (words rows tables index : List ℕ) → (r ≡ 0 → VariantIndex words rows (take (j + 1) tables) index) → Indexes (answered r n j) words rows tables index
-unfolding Indexes answered
-indexes_held r n j words rows tables index h = by_test (eqb r 0) refl
-  where
-    by_test : (b : Bool) → eqb r 0 ≡ b → Indexes (cond b (Held n j) (Refused r)) words rows tables index
-    by_test true q = h (eqb-true r 0 q)
-    by_test false q = tt
+    pub says_held : k ≡ 0 → Says (outcome s) s (Ok n) words rows tables
+    unfolding Says
+    says_held q = rw (sym (outcome_is s)) (by_outcome (reading s) h) where
+      by_outcome : (o : Outcome) → Says o s (Ok n) words rows tables → Says (go_on o) s (Ok n) words rows tables
+      by_outcome (refused m) h = absurd h
+      by_outcome (accepted p) g = by_result (result p) (judged_is p g)
+        where
+          by_result : {o : Outcome} → Result p o → k ≡ number_of o → Says o s (Ok n) words rows tables
+          by_result passes z = g
+          by_result (turned m f) z = absurd (omega arith)
 
--- the number of the reader's answer
-pub said_refused : (o : Outcome) (s words rows tables : List ℕ) (n : ℕ) → Says o s (Refused n) words rows tables → n ≡ number_of o
-unfolding Says
-said_refused (refused m) s words rows tables n h = h
-said_refused (accepted p) s words rows tables n h = absurd h
+    -- the refusals 1 to 3 are the reader's
+    pub late : (r : Refusal) → refusal.number r ≡ k → 3 < refusal.number r
+    unfolding Says
+    late r q = by_outcome (reading s) h where
+      by_outcome : (o : Outcome) → Says o s (Ok n) words rows tables → 3 < refusal.number r
+      by_outcome (refused m) h = absurd h
+      by_outcome (accepted p) g = by_result (result p) (judged_is p g)
+        where
+          by_result : {o : Outcome} → Result p o → k ≡ number_of o → 3 < refusal.number r
+          by_result passes z = absurd (some_number r (q ∙ z))
+          by_result (turned m f) z = omega arith
 
-pub said_held : (o : Outcome) (s words rows tables : List ℕ) (n j : ℕ) → Says o s (Held n j) words rows tables → 0 ≡ number_of o
-unfolding Says
-said_held (refused m) s words rows tables n j h = absurd h
-said_held (accepted p) s words rows tables n j h = refl
+-- the number of an answer
+pub refused_is : (s words rows tables : List ℕ) (r : rust.Result Held Refusal) → Says (outcome s) s r words rows tables → result_number r ≡ refusal s
+unfolding Says refusal
+refused_is s words rows tables r h = by_outcome (outcome s) r h where
+  by_outcome : (o : Outcome) (r : rust.Result Held Refusal) → Says o s r words rows tables → result_number r ≡ number_of o
+  by_outcome (refused m) (Err r) h = h
+  by_outcome (refused m) (Ok n) h = absurd h
+  by_outcome (accepted p) (Err r) h = absurd h
+  by_outcome (accepted p) (Ok n) h = refl
+
+pub number_of_err : (r : rust.Result Held Refusal) → refusal_number (result_err r) ≡ result_number r
+number_of_err (Ok n) = refl
+number_of_err (Err r) = refl
+
+-- what holds of buffers holds of equal ones
+pub of_equal : (P : List ℕ → List ℕ → List ℕ → Type 0) (w x m w' x' m' : List ℕ) → P w x m → w' ≡ w → x' ≡ x → m' ≡ m → P w' x' m'
+of_equal P w x m w' x' m' h a b e = rw (a, b, e) h

@@ -1,61 +1,36 @@
 // The refusals 1 to 10 of a plan.
 #![tactic(auto)]
 
-ghost use Rattle.std.specs.Prelude.{◌≡◌, List, ℕ, ◌+◌, ◌≤◌, ◌<◌, length, take};
-ghost use Rattle.plan.specs.Refusal.{Outcome, judged, number_of, outcome, refusal};
-ghost use Rattle.reader.specs.Reading.{Room, Says, Keeps};
-ghost use Rattle.variants.specs.Index.{VariantIndex};
-ghost use Rattle.refusals.specs.Answered.{answered, Indexes};
-ghost use Rattle.view.specs.Tables.{plan_in};
+ghost use Rattle.std.specs.Prelude.{◌≡◌, ◌≤◌, length};
+ghost use Rattle.plan.specs.Refusal.{outcome, refusal};
+ghost use Rattle.layout.specs.Filling.{SameBuffers};
+ghost use Rattle.refusal.specs.Number.{refusal_number};
+ghost use Rattle.reader.specs.Reading.{Room, Enough, Says, Keeps, KeepsBuffers};
+ghost use Rattle.refusals.specs.Answered.{Indexes};
 
-use reader::Laid;
+use layout::{Buffers, Filled};
+use reader::Held;
+use refusal::Refusal;
 
-// The lowest of the refusals 4 to 10 of the plan that the buffers hold in j tables, 0 for none: then its variants are indexed.
-fn judge_first(
-    words: &[u32],
-    rows: &[u32],
-    tables: &[u32],
-    j: usize,
-    index: &mut [u32; 1281],
-) -> u32
-    requires { j < length tables.now }
-    ensures { ((plan : List ℕ) → result ≡ number_of (judged (plan_in plan words.now rows.now (take (j + 1) tables.now)))) × (result ≡ 0 → VariantIndex words.now rows.now (take (j + 1) tables.now) index.new) }
-{
-    let end = j + 1;
-    exists::judge(words, rows, &tables[..end], index)
-}
-
-// The reader's answer, where the number of the refusals 4 to 10 is known.
-fn told(number: u32, rows: usize, tables: usize) -> Laid
-    ensures { result ≡ answered number rows tables }
-{
-    if number == 0 {
-        return Laid::Held(rows, tables);
-    }
-    Laid::Refused(number)
-}
-
-// Reads a plan into buffers that are long enough for it and judges it: the number of its lowest refusal, or how many rows and
-// tables the buffers hold; then its variants are indexed. The refusals 1 and 2 change nothing in the buffers, and 3 nothing in the index.
+// Reads a plan into buffers that are long enough for it and judges it: its lowest refusal, or how many rows and tables the buffers
+// hold; then its variants are indexed. The refusals 1 and 2 change nothing in the buffers, and 3 nothing in the index.
 pub fn read_into(
     plan: &[u8],
-    words: &mut [u32],
-    rows: &mut [u32],
-    tables: &mut [u32],
+    buffers: &mut Buffers<'_>,
     above: &mut [u8],
     index: &mut [u32; 1281],
-) -> Laid
-    requires { Room plan.now words.old rows.old tables.old above.old }
-    ensures { Says (outcome plan.now) plan.now result words.new rows.new tables.new × Indexes result words.new rows.new tables.new index.new × Keeps 2 result words.old words.new × Keeps 2 result rows.old rows.new × Keeps 2 result tables.old tables.new × Keeps 3 result index.old index.new }
+) -> Result<Held, Refusal>
+    requires { Room plan.now buffers.old.words.now buffers.old.rows.now buffers.old.tables.now above.old }
+    ensures same { SameBuffers buffers.old buffers.new }
+    ensures says { Says (outcome plan.now) plan.now result buffers.new.words.now buffers.new.rows.now buffers.new.tables.now }
+    ensures indexes { Indexes result buffers.new.words.now buffers.new.rows.now buffers.new.tables.now index.new }
+    ensures keeps { KeepsBuffers 2 result buffers.old buffers.new }
+    ensures keeps_index { Keeps 3 result index.old index.new }
 {
-    let r = reader::read_into(plan, words, rows, tables, above);
-    match r {
-        Laid::Refused(n) => Laid::Refused(n),
-        Laid::Held(n, j) => {
-            let number = judge_first(words, rows, tables, j, index);
-            told(number, n, j)
-        }
-    }
+    let held = reader::read_into(plan, buffers, above)?;
+    let laid = reader::plan_held(plan, buffers, held.tables);
+    exists::judge(&laid, index)?;
+    Ok(held)
 }
 
 // The same into buffers that are long enough for each plan.
@@ -65,60 +40,52 @@ pub fn read(
     rows: &mut [u32; 32769],
     tables: &mut [u32; 16385],
     index: &mut [u32; 1281],
-) -> Laid
-    ensures { Says (outcome plan.now) plan.now result words.new rows.new tables.new × Indexes result words.new rows.new tables.new index.new × Keeps 2 result words.old words.new × Keeps 2 result rows.old rows.new × Keeps 2 result tables.old tables.new × Keeps 3 result index.old index.new }
+) -> Result<Held, Refusal>
+    ensures says { Says (outcome plan.now) plan.now result words.new rows.new tables.new }
+    ensures indexes { Indexes result words.new rows.new tables.new index.new }
+    ensures keeps { Keeps 2 result words.old words.new × Keeps 2 result rows.old rows.new × Keeps 2 result tables.old tables.new }
+    ensures keeps_index { Keeps 3 result index.old index.new }
 {
     let mut above = [0u8; 32770];
-    read_into(plan, words, rows, tables, &mut above, index)
+    let mut buffers = Buffers {
+        words,
+        rows,
+        tables,
+        filled: Filled::default(),
+    };
+    read_into(plan, &mut buffers, &mut above, index)
 }
 
-// The number that the reader's answer is.
-fn number(laid: Laid) -> u32
-    ensures { (o : Outcome) (s words rows tables : List ℕ) → Says o s laid words rows tables → result ≡ number_of o }
+// The lowest refusal of a plan's bytes, by buffers of these lengths.
+fn refused_in<const WORDS: usize, const ROWS: usize, const TABLES: usize, const LEVELS: usize>(
+    plan: &[u8],
+) -> Option<Refusal>
+    requires enough { Enough (length plan.now) WORDS ROWS TABLES LEVELS }
+    requires few { (WORDS ≤ 65536) × (ROWS ≤ 65536) × (TABLES ≤ 65536) × (LEVELS ≤ 65536) }
+    ensures { refusal_number result ≡ refusal plan.now }
 {
-    match laid {
-        Laid::Refused(n) => n,
-        Laid::Held(_rows, _tables) => 0,
-    }
-}
-
-fn refused_small(plan: &[u8]) -> u32
-    requires { length plan.now ≤ 4096 }
-    ensures { result ≡ refusal plan.now }
-{
-    let mut words = [0u32; 4096];
-    let mut rows = [0u32; 2049];
-    let mut tables = [0u32; 1025];
-    let mut above = [0u8; 2050];
+    let mut words = [0u32; WORDS];
+    let mut rows = [0u32; ROWS];
+    let mut tables = [0u32; TABLES];
+    let mut above = [0u8; LEVELS];
     let mut index = [0u32; 1281];
-    let laid = read_into(
-        plan,
-        &mut words,
-        &mut rows,
-        &mut tables,
-        &mut above,
-        &mut index,
-    );
-    number(laid)
+    let mut buffers = Buffers {
+        words: &mut words,
+        rows: &mut rows,
+        tables: &mut tables,
+        filled: Filled::default(),
+    };
+    read_into(plan, &mut buffers, &mut above, &mut index).err()
 }
 
-fn refused_large(plan: &[u8]) -> u32
-    ensures { result ≡ refusal plan.now }
-{
-    let mut words = [0u32; 65536];
-    let mut rows = [0u32; 32769];
-    let mut tables = [0u32; 16385];
-    let mut index = [0u32; 1281];
-    number(read(plan, &mut words, &mut rows, &mut tables, &mut index))
-}
-
-// The number of the lowest refusal of a plan's bytes, 0 for none. Most plans are small: buffers that are long enough for each
-// plan take longer to clear than a small plan to read.
-pub fn refused(plan: &[u8]) -> u32
-    ensures { result ≡ refusal plan.now }
+// The lowest refusal of a plan's bytes, none for an accepted plan. Most plans are small: buffers that are long enough for each plan
+// take longer to clear than a small plan to read.
+pub fn refused(plan: &[u8]) -> Option<Refusal>
+    ensures { refusal_number result ≡ refusal plan.now }
 {
     if plan.len() <= 4096 {
-        return refused_small(plan);
+        refused_in::<4096, 2049, 1025, 2050>(plan)
+    } else {
+        refused_in::<65536, 32769, 16385, 32770>(plan)
     }
-    refused_large(plan)
 }

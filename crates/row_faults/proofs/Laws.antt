@@ -1,15 +1,17 @@
 -- Laws about names, kept answers and lists. Assumes nothing.
-use Prim.Native.Nat.{ℕ, zero, suc, ◌+◌, ◌-◌, ◌≤◌, ◌<◌}
+use Prim.Native.Nat.{ℕ, zero, suc, ◌+◌, ◌≤◌, ◌<◌}
 use mathlib.Core.Path.{◌≡◌, refl, sym, ap, ◌∙◌}
 use mathlib.Core.Bool.{Bool, true, false, cond, not, ◌&&◌, ◌||◌}
 use mathlib.Core.Option.{Option, some, none}
 use mathlib.Core.List.{List, [], ◌∷◌}
+use denote.Bor.{Bor}
+use Rattle.std.specs.Prelude.{None}
 use native.Mathlib.Numerals.{add-one}
 use native.Mathlib.Omega.{arith}
 use lib.Dec.{eqb, ltb}
 use lib.ListN.{length, get_or, drop, drop_of_length-le}
 use lib.Seq.{drop-cons, get_or-drop, get_or-set_other}
-use borrow.Author.Tests.{eq-eqb, ne_eqb, eqb-false, ltb-true, ltb-false, lt-ltb, le-ltb}
+use borrow.Author.Tests.{eq-eqb, ne_eqb, eqb-false, ltb-true, ltb-false}
 use Rattle.plan.specs.Plan.{Environment}
 use Rattle.plan.specs.Binding.{BindingRow}
 use Rattle.plan.specs.Lookup.{binding_at}
@@ -17,24 +19,28 @@ use Rattle.plan.specs.Row.{Match, Equal, Loop, Return, Row, arm}
 use Rattle.codegen.specs.Writer.{Marks, contains, insert}
 use Rattle.codegen.specs.Pattern.{bind_all}
 use Rattle.codegen.specs.Block.{Purpose, body, arm_count, is_constant}
-use Rattle.origin.specs.Names.{listed, after_list, match_inside, match_opens, inside, opens}
+use Rattle.origin.specs.Names.{listed, after_list, match_inside, match_opens, inside, opens, arm_inside, arm_opens}
 use Rattle.lists.specs.Items.{unbound}
-use Rattle.values.specs.Value.{Wide}
-use Rattle.rows.specs.View.{nth, wide_at, arm_made, pattern_of, patterns_in, binding_of, block_of}
+use Rattle.rows.specs.View.{nth, pattern_of, patterns_in, binding_of, block_of}
 use Rattle.layout.specs.View.{cut}
 use Rattle.view.specs.Told.{control_flow_of, constraint_of}
-use Rattle.view.specs.Tables.{table_rows}
 use Rattle.checks.proofs.Blocks.{binding_is}
 use Rattle.row_frames.specs.Patterns.{bind_some}
 use Rattle.row_frames.specs.Scopes.{Saved}
-use Rattle.row_frames.specs.Told.{opens_told}
+use Rattle.row_frames.specs.Told.{purpose_told, opens_told}
+use Rattle.row_frames.specs.declared.Purpose as code
+use Rattle.row_frames.specs.declared.Purpose.TheVariants as purposes
 use Rattle.emits.specs.Marks.{set_of}
 use Rattle.row_frames.specs.Rows.{rows_from, rows_next, rows_none, step_is, arm_is}
 use Rattle.splitting.specs.Cases.{false_true}
 use Rattle.schedule_rules.specs.Faults.{any, returns_many, holds, calls_below, calls, uses, loop_unbound, list_calls, check_calls, own_new, source_uses_own, match_uses_own, row_faults, nowhere}
 use Rattle.schedule_rules.specs.Found.{Lower, found}
 use Rattle.schedule_rules.proofs.Found.{sources_found}
-use Rattle.expr_faults.specs.Kept.{TermsHeld, bindings_in, asked_name, asked_call, answer, Known, Fresh, Finds}
+use Rattle.view.specs.Buffers.{rows_of, env_of}
+use Rattle.expr_faults.specs.Kept.{bindings_of, asked_name, asked_call, answer, Known, Fresh, Finds}
+use Rattle.expr_faults.specs.declared.kept.Kept.{Kept}
+use Rattle.expr_faults.specs.declared.written.Bindings.{Bindings}
+use Rattle.expr_faults.specs.declared.written.Question.{Question}
 use Rattle.expr_faults.proofs.Laws.{fresh_known, fresh_latest}
 use Rattle.row_faults.specs.Ready.{Ready, Decides, member_calls}
 use Rattle.row_faults.specs.Arms.{arms_in, arm_names, own_used, arm_own, opened_by}
@@ -58,54 +64,57 @@ bind_there b m h k = sym (insert_there m b k) ∙ bind_some b m h
 
 -- KEPT ANSWERS
 
-module _ (env : Environment) (bs : List BindingRow) (before bound : Marks) where
-  answer_calls : (b : ℕ) → answer false env bs before bound b ≡ calls env bs bound b
+module _ (env : Environment) (bs : List BindingRow) (bound : Marks) where
+  answer_calls : (b : ℕ) → answer false env bs [] bound b ≡ calls env bs bound b
   unfolding answer found asked_name asked_call calls calls_below
   answer_calls b = refl
 
-  known_calls : {number : ℕ} {kept : List ℕ} → Known (calls env bs bound) number kept → Known (answer false env bs before bound) number kept
+  known_calls : {number : ℕ} {kept : List ℕ} → Known (calls env bs bound) number kept → Known (answer false env bs [] bound) number kept
   known_calls k = record { no = λ b h. answer_calls b ∙ k.no b h; yes = λ b h. answer_calls b ∙ k.yes b h }
 
-  calls_known : {number : ℕ} {kept : List ℕ} → Known (answer false env bs before bound) number kept → Known (calls env bs bound) number kept
+  calls_known : {number : ℕ} {kept : List ℕ} → Known (answer false env bs [] bound) number kept → Known (calls env bs bound) number kept
   calls_known k = record { no = λ b h. sym (answer_calls b) ∙ k.no b h; yes = λ b h. sym (answer_calls b) ∙ k.yes b h }
 
   -- the sources of a member
-  sources_calls : (b : ℕ) → Lower bs → any (answer false env bs before bound) (binding_at bs b).sources ≡ any (calls_below env bs bound b) (binding_at bs b).sources
+  sources_calls : (b : ℕ) → Lower bs → any (answer false env bs [] bound) (binding_at bs b).sources ≡ any (calls_below env bs bound b) (binding_at bs b).sources
   unfolding answer found asked_name asked_call calls_below
   sources_calls b l = sym (sources_found nowhere (λ n. returns_many env (binding_at bs n).binding) bs bound l b)
 
-module _ {words rows tables : List ℕ} {t : ℕ} {bound : Marks} where
-  pub ready_fresh : {number : ℕ} {kept : List ℕ} → Fresh number kept → Ready words rows tables t bound number kept
-  ready_fresh h = record { low = omega (arith, h.below 0); room = h.room; latest = fresh_latest h; known = λ env x l. fresh_known h }
+-- whether calls that return many are written
+abbrev pub asking_calls : Bor (List Bool) → Question
+asking_calls names = record { bound = names; before = None }
 
-  module _ {before : Marks} {number : ℕ} {kept kept' : List ℕ} {r : Bool} (y : Ready words rows tables t bound number kept) where
+module _ {t : Bindings} where
+  pub ready_fresh : {bound : Marks} {k : Kept} → Fresh k.number k.answers.now → Ready t bound k
+  ready_fresh h = record { low = omega (arith, h.below 0); room = h.room; latest = fresh_latest h; known = λ l. fresh_known h }
+
+  module _ {names : Bor (List Bool)} {k k' : Kept} {r : Bool} (y : Ready t (set_of names.now) k) where
     -- after a question what is kept is right again
-    pub ready_kept : {x : (ℕ → Bool) → Bool} → Finds false words rows tables t before bound number x kept kept' r → Ready words rows tables t bound number kept'
+    pub ready_kept : {x : (ℕ → Bool) → Bool} → Finds (asking_calls names) t x k k' r → Ready t (set_of names.now) k'
     ready_kept f = record {
-      low = y.low;
-      room = y.room;
+      low = rw f.number y.low;
+      room = rw f.number y.room;
       latest = f.latest y.latest;
-      known = λ env h l. calls_known env (bindings_in words rows tables t) before bound (f.known env h l (known_calls env (bindings_in words rows tables t) before bound (y.known env h l))).1;
+      known = λ l. calls_known (env_of t.plan.now) (bindings_of t) (set_of names.now) (f.known l (known_calls (env_of t.plan.now) (bindings_of t) (set_of names.now) (y.known l))).1;
     }
 
-    pub decides_calls : (b : ℕ) → Finds false words rows tables t before bound number (λ f. f b) kept kept' r → Decides words rows tables t (λ env bs. calls env bs bound b) r
-    decides_calls b f = record { is = λ env h l. (f.known env h l (known_calls env (bindings_in words rows tables t) before bound (y.known env h l))).0 ∙ answer_calls env (bindings_in words rows tables t) before bound b }
+    pub decides_calls : (b : ℕ) → Finds (asking_calls names) t (λ f. f b) k k' r → Decides t (λ env bs. calls env bs (set_of names.now) b) r
+    decides_calls b f = record { is = λ l. (f.known l (known_calls (env_of t.plan.now) (bindings_of t) (set_of names.now) (y.known l))).0 ∙ answer_calls (env_of t.plan.now) (bindings_of t) (set_of names.now) b }
 
-    pub decides_member : (b : ℕ) → contains bound b ≡ false → Finds false words rows tables t before bound number (λ f. any f (binding_at (bindings_in words rows tables t) b).sources) kept kept' r → Decides words rows tables t (λ env bs. member_calls env bs bound b) r
+    pub decides_member : (b : ℕ) → contains (set_of names.now) b ≡ false → Finds (asking_calls names) t (λ f. any f (binding_at (bindings_of t) b).sources) k k' r → Decides t (λ env bs. member_calls env bs (set_of names.now) b) r
     unfolding member_calls
-    decides_member b h f = record { is = λ env x l. rw h ((f.known env x l (known_calls env (bindings_in words rows tables t) before bound (y.known env x l))).0 ∙ sources_calls env (bindings_in words rows tables t) before bound b l) }
+    decides_member b h f = record { is = λ l. rw h ((f.known l (known_calls (env_of t.plan.now) (bindings_of t) (set_of names.now) (y.known l))).0 ∙ sources_calls (env_of t.plan.now) (bindings_of t) (set_of names.now) b l) }
 
-pub decides_named : {words rows tables : List ℕ} {t : ℕ} (bound : Marks) (b : ℕ) → contains bound b ≡ true → Decides words rows tables t (λ env bs. member_calls env bs bound b) false
+pub decides_named : {t : Bindings} (bound : Marks) (b : ℕ) → contains bound b ≡ true → Decides t (λ env bs. member_calls env bs bound b) false
 unfolding member_calls
-decides_named bound b h = record { is = λ env x l. rw h refl }
+decides_named bound b h = record { is = λ l. rw h refl }
 
 -- LISTS
 
 -- from word k of the row on, where the names were m₀ at the list's start
-pub record Listing (words rows tables : List ℕ) (t : ℕ) (row : List ℕ) (m₀ m : Marks) (k : ℕ) (found : Bool) : Type 0 where
+pub record Listing (t : Bindings) (row : List ℕ) (m₀ m : Marks) (k : ℕ) (found : Bool) : Type 0 where
   pub names : listed (drop k row) m ≡ listed (drop 7 row) m₀
-  pub faults : (env : Environment) → TermsHeld env words rows tables → Lower (bindings_in words rows tables t)
-      → (found || list_calls env (bindings_in words rows tables t) m (drop k row)) ≡ list_calls env (bindings_in words rows tables t) m₀ (drop 7 row)
+  pub faults : Lower (bindings_of t) → (found || list_calls (env_of t.plan.now) (bindings_of t) m (drop k row)) ≡ list_calls (env_of t.plan.now) (bindings_of t) m₀ (drop 7 row)
 
 or_assoc : (a b c : Bool) → ((a || b) || c) ≡ (a || (b || c))
 or_assoc true b c = refl
@@ -115,6 +124,12 @@ or_false : (a : Bool) → (a || false) ≡ a
 or_false true = refl
 or_false false = refl
 
+or_comm : (a b : Bool) → (a || b) ≡ (b || a)
+or_comm true true = refl
+or_comm true false = refl
+or_comm false true = refl
+or_comm false false = refl
+
 listed_cons : (row : List ℕ) (k : ℕ) (m : Marks) → k < length row → listed (drop k row) m ≡ listed (drop (k + 1) row) (insert m (nth row k))
 unfolding listed
 listed_cons row k m h = rw (add-one, drop-cons row k 0 h)
@@ -123,25 +138,25 @@ calls_cons : (env : Environment) (bs : List BindingRow) (row : List ℕ) (k : �
 unfolding list_calls member_calls
 calls_cons env bs row k m h = rw (add-one, drop-cons row k 0 h)
 
-module _ {words rows tables : List ℕ} {t : ℕ} {row : List ℕ} {m₀ : Marks} where
-  pub listing_start : Listing words rows tables t row m₀ m₀ 7 false
-  listing_start = record { names = refl; faults = λ env x l. refl }
+module _ {t : Bindings} {row : List ℕ} {m₀ : Marks} where
+  pub listing_start : Listing t row m₀ m₀ 7 false
+  listing_start = record { names = refl; faults = λ l. refl }
 
-  pub listing_next : {m m' : Marks} {k : ℕ} {found more r : Bool} → k < length row → Listing words rows tables t row m₀ m k found → m' ≡ insert m (nth row k)
-      → Decides words rows tables t (λ env bs. member_calls env bs m (nth row k)) more → r ≡ (found || more) → Listing words rows tables t row m₀ m' (k + 1) r
+  pub listing_next : {m m' : Marks} {k : ℕ} {found more r : Bool} → k < length row → Listing t row m₀ m k found → m' ≡ insert m (nth row k)
+      → Decides t (λ env bs. member_calls env bs m (nth row k)) more → r ≡ (found || more) → Listing t row m₀ m' (k + 1) r
   listing_next {m} {m'} {k} {found} {more} h w q d e = record {
     names = rw q (sym (listed_cons row k m h) ∙ w.names);
-    faults = λ env x l.
-        rw (q, e, d.is env x l) (or_assoc found _ _ ∙ ap (λ (y : Bool). found || y) (sym (calls_cons env (bindings_in words rows tables t) row k m h)) ∙ w.faults env x l);
+    faults = λ l.
+        rw (q, e, d.is l) (or_assoc found _ _ ∙ ap (λ (y : Bool). found || y) (sym (calls_cons (env_of t.plan.now) (bindings_of t) row k m h)) ∙ w.faults l);
   }
 
-  pub listing_names : {m : Marks} {k : ℕ} {found : Bool} → length row ≤ k → Listing words rows tables t row m₀ m k found → m ≡ listed (drop 7 row) m₀
+  pub listing_names : {m : Marks} {k : ℕ} {found : Bool} → length row ≤ k → Listing t row m₀ m k found → m ≡ listed (drop 7 row) m₀
   unfolding listed
   listing_names {m} h w = sym (ap (λ (l : List ℕ). listed l m) (drop_of_length-le row h)) ∙ w.names
 
-  pub listing_faults : {m : Marks} {k : ℕ} {found : Bool} → length row ≤ k → Listing words rows tables t row m₀ m k found → Decides words rows tables t (λ env bs. list_calls env bs m₀ (drop 7 row)) found
+  pub listing_faults : {m : Marks} {k : ℕ} {found : Bool} → length row ≤ k → Listing t row m₀ m k found → Decides t (λ env bs. list_calls env bs m₀ (drop 7 row)) found
   unfolding list_calls
-  listing_faults {m} {k} {found} h w = record { is = λ env x l. sym (rw (drop_of_length-le row h) (or_false found)) ∙ w.faults env x l }
+  listing_faults {m} {k} {found} h w = record { is = λ l. sym (rw (drop_of_length-le row h) (or_false found)) ∙ w.faults l }
 
 pub or_left : (a b : Bool) → (a || b) ≡ false → a ≡ false
 or_left true b h = false_true (sym h)
@@ -152,28 +167,6 @@ or_right true b h = false_true (sym h)
 or_right false b h = h
 
 -- ARMS
-
-constant_made : (j a : ℕ) (b : Wide) → is_constant (arm_made j a b) ≡ ltb j 3
-unfolding arm_made
-constant_made zero a b = refl
-constant_made (suc zero) a b = refl
-constant_made (suc (suc zero)) a b = refl
-constant_made (suc (suc (suc j))) a b = other j ∙ sym (le-ltb (suc (suc (suc j))) 3 (omega arith))
-  where
-    other : (j : ℕ) → is_constant (arm_made (suc (suc (suc j))) a b) ≡ false
-    other zero = refl
-    other (suc zero) = refl
-    other (suc (suc zero)) = refl
-    other (suc (suc (suc j))) = refl
-
-four_less : (k : ℕ) → ltb k 7 ≡ ltb (k - 4) 3
-four_less k = by_test (ltb k 7) refl where
-  by_test : (b : Bool) → ltb k 7 ≡ b → ltb k 7 ≡ ltb (k - 4) 3
-  by_test true h = h ∙ sym (lt-ltb (k - 4) 3 (omega (arith, ltb-true k 7 h)))
-  by_test false h = h ∙ sym (le-ltb (k - 4) 3 (omega (arith, ltb-false k 7 h)))
-
-pub constant_is : (ws : List ℕ) → ltb (nth ws 1) 7 ≡ is_constant (constraint_of ws)
-constant_is ws = four_less (nth ws 1) ∙ sym (constant_made (nth ws 1 - 4) (nth ws 2) (wide_at ws 3))
 
 module _ (words rows : List ℕ) (l r last : ℕ) where
   pub arms_absent : last ≤ r → Absent ≡ arms_in l (rows_from words rows last r)
@@ -284,50 +277,47 @@ module _ (bs : List BindingRow) (m : Marks) (q : ℕ) (ws : List ℕ) where
   own_asked env h = rw h (sym (uses_asked env))
 
 -- the first source of a binding
-pub first_source : (words rows tables : List ℕ) (t b : ℕ) → nth (get_or (table_rows words rows tables t) b []) 6 ≡ get_or (binding_at (bindings_in words rows tables t) b).sources 0 0
+pub first_source : (t : Bindings) (b : ℕ) → nth (get_or (rows_of t.plan.now t.table) b []) 6 ≡ get_or (binding_at (bindings_of t) b).sources 0 0
 unfolding binding_of
-first_source words rows tables t b = rw (binding_is (table_rows words rows tables t) b) (sym (get_or-drop 6 (get_or (table_rows words rows tables t) b []) 0 0))
+first_source t b = rw (binding_is (rows_of t.plan.now t.table) b) (sym (get_or-drop 6 (get_or (rows_of t.plan.now t.table) b []) 0 0))
 
 -- STEPS
 
-module _ {words rows tables : List ℕ} {t : ℕ} where
-  no_fault : (x : Environment → List BindingRow → Bool) → ((env : Environment) (bs : List BindingRow) → x env bs ≡ false) → Decides words rows tables t x false
-  no_fault x h = record { is = λ env y l. sym (h env (bindings_in words rows tables t)) }
-
-  pub judges_loop : {m m' : Marks} {kept : List ℕ} {s : Step} (result l : ℕ) (rs : List Row) → m' ≡ insert m result → Ready words rows tables t m' s.number kept → opens_told s.opens ≡ some body
-      → s.a ≡ not (contains m (get_or (binding_at (bindings_in words rows tables t) result).sources 0 0)) → s.b ≡ false → s.c ≡ false → JudgesStep words rows tables t (Loop result) l rs m m' kept s
+module _ {t : Bindings} where
+  pub judges_loop : {m m' : Marks} {kept : Kept} {s : Step} (result l : ℕ) (rs : List Row) → m' ≡ insert m result → Ready t m' kept → opens_told s.opens ≡ some body
+      → s.faults.a ≡ not (contains m (get_or (binding_at (bindings_of t) result).sources 0 0)) → s.faults.b ≡ false → s.faults.c ≡ false → JudgesStep t (Loop result) l rs m m' kept s
   unfolding inside opens loop_unbound check_calls match_uses_own
   judges_loop {m} {m'} {kept} {s} result l rs n r o a b c = record {
     ready = r;
     names = λ p xs. n;
     frame = λ p xs. o;
-    faults_a = record { is = λ env x y. a };
-    faults_b = record { is = λ env x y. b };
-    faults_c = record { is = λ env x y. c };
+    faults_a = record { is = λ y. a };
+    faults_b = record { is = λ y. b };
+    faults_c = record { is = λ y. c };
   }
 
-  pub judges_equal : {m : Marks} {kept : List ℕ} {s : Step} {first second : Bool} (a b l : ℕ) (rs : List Row) → Ready words rows tables t m s.number kept → opens_told s.opens ≡ some body
-      → Decides words rows tables t (λ env bs. calls env bs m a) first → Decides words rows tables t (λ env bs. calls env bs m b) second → s.b ≡ (first || second) → s.a ≡ false → s.c ≡ false → JudgesStep words rows tables t (Equal a b) l rs m m kept s
+  pub judges_equal : {m : Marks} {kept : Kept} {s : Step} {first second : Bool} (a b l : ℕ) (rs : List Row) → Ready t m kept → opens_told s.opens ≡ some body
+      → Decides t (λ env bs. calls env bs m a) first → Decides t (λ env bs. calls env bs m b) second → s.faults.b ≡ (first || second) → s.faults.a ≡ false → s.faults.c ≡ false → JudgesStep t (Equal a b) l rs m m kept s
   unfolding inside opens loop_unbound check_calls match_uses_own
   judges_equal a b l rs r o d e h x z = record {
     ready = r;
     names = λ p xs. refl;
     frame = λ p xs. o;
-    faults_a = record { is = λ env y w. x };
-    faults_b = record { is = λ env y w. h ∙ rw (d.is env y w, e.is env y w) };
-    faults_c = record { is = λ env y w. z };
+    faults_a = record { is = λ w. x };
+    faults_b = record { is = λ w. h ∙ rw (d.is w, e.is w) };
+    faults_c = record { is = λ w. z };
   }
 
-  pub judges_return : {m : Marks} {kept : List ℕ} {s : Step} (result pos l : ℕ) (rs : List Row) → Ready words rows tables t m s.number kept → opens_told s.opens ≡ none
-      → Decides words rows tables t (λ env bs. calls env bs m result) s.b → s.a ≡ false → s.c ≡ false → JudgesStep words rows tables t (Return result pos) l rs m m kept s
+  pub judges_return : {m : Marks} {kept : Kept} {s : Step} (result pos l : ℕ) (rs : List Row) → Ready t m kept → opens_told s.opens ≡ none
+      → Decides t (λ env bs. calls env bs m result) s.faults.b → s.faults.a ≡ false → s.faults.c ≡ false → JudgesStep t (Return result pos) l rs m m kept s
   unfolding inside opens loop_unbound check_calls match_uses_own
   judges_return result pos l rs r o d x z = record {
     ready = r;
     names = λ p xs. refl;
     frame = λ p xs. o;
-    faults_a = record { is = λ env y w. x };
+    faults_a = record { is = λ w. x };
     faults_b = d;
-    faults_c = record { is = λ env y w. z };
+    faults_c = record { is = λ w. z };
   }
 
 -- a match of level l before the rows from row r on, by its arms
@@ -363,24 +353,24 @@ module _ (words rows : List ℕ) (l r last : ℕ) where
       by_room false h = rw (rows_none words rows r last (ltb-false r last h)) (λ m bs q. (refl, refl, refl))
 
   -- what a match does, by its arms
-  pub judges_match : {tables : List ℕ} {t : ℕ} {arms : Arms} {m m' : Marks} {kept : List ℕ} {s : Step} (q : ℕ) → arms ≡ arms_in l after → m' ≡ arm_names arms (cut words rows r) m → Ready words rows tables t m' s.number kept → opens_told s.opens ≡ opened_by arms q
-      → Decides words rows tables t (λ env bs. calls env bs m' q) s.b → Decides words rows tables t (λ env bs. arm_own arms bs m q (cut words rows r)) s.c → s.a ≡ false → JudgesStep words rows tables t (Match q) l after m m' kept s
+  pub judges_match : {t : Bindings} {arms : Arms} {m m' : Marks} {kept : Kept} {s : Step} (q : ℕ) → arms ≡ arms_in l after → m' ≡ arm_names arms (cut words rows r) m → Ready t m' kept → opens_told s.opens ≡ opened_by arms q
+      → Decides t (λ env bs. calls env bs m' q) s.faults.b → Decides t (λ env bs. arm_own arms bs m q (cut words rows r)) s.faults.c → s.faults.a ≡ false → JudgesStep t (Match q) l after m m' kept s
   unfolding inside opens loop_unbound check_calls match_uses_own
-  judges_match {tables} {t} {arms} {m} {m'} {kept} {s} q e n y o b c x =
+  judges_match {t} {arms} {m} {m'} {kept} {s} q e n y o b c x =
       let names : m' ≡ match_inside (arm_count l after) after m = n ∙ ap (λ (a : Arms). arm_names a (cut words rows r) m) e ∙ sym (match_arms m [] q).0 in
       record {
         ready = y;
         names = λ p xs. names;
         frame = λ p xs. o ∙ ap (λ (a : Arms). opened_by a q) e ∙ sym (match_arms m [] q).1;
-        faults_a = record { is = λ env z w. x };
-        faults_b = record { is = λ env z w. b.is env z w ∙ ap (λ (u : Marks). calls env (bindings_in words rows tables t) u q) names };
-        faults_c = record { is = λ env z w. c.is env z w ∙ ap (λ (a : Arms). arm_own a (bindings_in words rows tables t) m q (cut words rows r)) e ∙ sym (match_arms m (bindings_in words rows tables t) q).2 };
+        faults_a = record { is = λ w. x };
+        faults_b = record { is = λ w. b.is w ∙ ap (λ (u : Marks). calls (env_of t.plan.now) (bindings_of t) u q) names };
+        faults_c = record { is = λ w. c.is w ∙ ap (λ (a : Arms). arm_own a (bindings_of t) m q (cut words rows r)) e ∙ sym (match_arms m (bindings_of t) q).2 };
       }
 
 -- ROWS
 
-module _ {words rows tables : List ℕ} {t : ℕ} {m m' : Marks} {scopes : List (List Bool)} {top : ℕ} {scope : List Bool} {scopes' : List (List Bool)} {kept : List ℕ} (ws : List ℕ) (rs : List Row) where
-  pub judges_arm : {p : Purpose} {s : Step} → ltb (nth ws 1) 4 ≡ false → JudgesArm words rows tables t p (patterns_in (drop 7 ws)) m m' kept s → Saved (nth ws 1) scopes top scope scopes' → set_of scope ≡ m → JudgesRow words rows tables t p (nth ws 1) (block_of ws) rs m m' scopes top scopes' kept s
+module _ {t : Bindings} {m m' : Marks} {scopes : List (List Bool)} {top : ℕ} {scope : List Bool} {scopes' : List (List Bool)} {kept : Kept} (ws : List ℕ) (rs : List Row) where
+  pub judges_arm : {p : Purpose} {s : Step} → ltb (nth ws 1) 4 ≡ false → JudgesArm t p (patterns_in (drop 7 ws)) m m' kept s → Saved (nth ws 1) scopes top scope scopes' → set_of scope ≡ m → JudgesRow t p (nth ws 1) (block_of ws) rs m m' scopes top scopes' kept s
   unfolding inside opens after_list row_faults
   judges_arm {p} {s} h a v o = rw (arm_is ws h) (record {
     ready = a.ready;
@@ -389,22 +379,31 @@ module _ {words rows tables : List ℕ} {t : ℕ} {m m' : Marks} {scopes : List 
     scope = scope;
     saved = v;
     outside = o;
-    faults_a = record { is = λ env x l. a.none_a };
-    faults_b = record { is = λ env x l. a.none_b };
-    faults_c = record { is = λ env x l. a.none_c };
+    faults_a = record { is = λ l. a.none_a };
+    faults_b = record { is = λ l. a.none_b };
+    faults_c = record { is = λ l. a.none_c };
   })
 
-  pub judges_step : {p : Purpose} {s s' : Step} {found : Bool} → ltb (nth ws 1) 4 ≡ true → JudgesStep words rows tables t (control_flow_of ws) (nth ws 0) rs (listed (drop 7 ws) m) m' kept s → Decides words rows tables t (λ env bs. list_calls env bs m (drop 7 ws)) found
-      → Saved (nth ws 1) scopes top scope scopes' → set_of scope ≡ listed (drop 7 ws) m → s'.a ≡ s.a → s'.b ≡ (found || s.b) → s'.c ≡ s.c → s'.number ≡ s.number → s'.opens ≡ s.opens → JudgesRow words rows tables t p (nth ws 1) (block_of ws) rs m m' scopes top scopes' kept s'
+  pub judges_step : {p : Purpose} {s s' : Step} {found : Bool} → ltb (nth ws 1) 4 ≡ true → JudgesStep t (control_flow_of ws) (nth ws 0) rs (listed (drop 7 ws) m) m' kept s → Decides t (λ env bs. list_calls env bs m (drop 7 ws)) found
+      → Saved (nth ws 1) scopes top scope scopes' → set_of scope ≡ listed (drop 7 ws) m → s'.faults.a ≡ s.faults.a → s'.faults.b ≡ (s.faults.b || found) → s'.faults.c ≡ s.faults.c → s'.opens ≡ s.opens → JudgesRow t p (nth ws 1) (block_of ws) rs m m' scopes top scopes' kept s'
   unfolding after_list row_faults
-  judges_step {p} {s} {s'} {found} h j d v o a b c n q = rw (step_is ws h) (record {
-    ready = rw n j.ready;
+  judges_step {p} {s} {s'} {found} h j d v o a b c q = rw (step_is ws h) (record {
+    ready = j.ready;
     names = j.names p (drop 7 ws);
     frame = ap opens_told q ∙ j.frame p (drop 7 ws);
     scope = scope;
     saved = v;
     outside = o;
-    faults_a = record { is = λ env x l. a ∙ j.faults_a.is env x l };
-    faults_b = record { is = λ env x l. b ∙ rw (d.is env x l, j.faults_b.is env x l) };
-    faults_c = record { is = λ env x l. c ∙ j.faults_c.is env x l };
+    faults_a = record { is = λ l. a ∙ j.faults_a.is l };
+    faults_b = record { is = λ l. b ∙ or_comm s.faults.b found ∙ rw (d.is l, j.faults_b.is l) };
+    faults_c = record { is = λ l. c ∙ j.faults_c.is l };
   })
+
+-- an arm that is no arm of a match of several
+module _ {t : Bindings} {m : Marks} {kept : Kept} {s : Step} where
+  pub arm_other : (p : code.Purpose) (ps : List (Option ℕ)) → ((q : ℕ) → p ≡ purposes.ArmsOf q → ⊥) → Ready t m kept → s.opens ≡ None → s.faults.a ≡ false → s.faults.b ≡ false → s.faults.c ≡ false → JudgesArm t (purpose_told p) ps m m kept s
+  unfolding arm_inside arm_opens
+  arm_other purposes.OneArm ps h y o a b c = record { ready = y; names = refl; frame = ap opens_told o; none_a = a; none_b = b; none_c = c }
+  arm_other (purposes.ArmsOf q) ps h y o a b c = absurd (h q refl)
+  arm_other purposes.ArmBody ps h y o a b c = record { ready = y; names = refl; frame = ap opens_told o; none_a = a; none_b = b; none_c = c }
+  arm_other purposes.Body ps h y o a b c = record { ready = y; names = refl; frame = ap opens_told o; none_a = a; none_b = b; none_c = c }

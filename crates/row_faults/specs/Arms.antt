@@ -8,9 +8,15 @@ use Rattle.codegen.specs.Pattern.{bind_all}
 use Rattle.codegen.specs.Block.{Purpose, one_arm, arms_of, arm_count, is_constant}
 use Rattle.rows.specs.View.{patterns_in}
 use Rattle.view.specs.Told.{constraint_of}
+use Rattle.view.specs.declared.buffers.Plan.{Plan}
+use Rattle.row_frames.specs.Rows.{rows_from}
 use Rattle.schedule_rules.specs.Faults.{uses, own_new}
 use Rattle.row_faults.specs.declared.matches.Arms.{Arms}
 use Rattle.row_faults.specs.declared.matches.Arms.TheVariants.{Absent, One, Several}
+
+-- the rows from row r up to row `last`
+abbrev pub rows_in : Plan → ℕ → ℕ → List Row
+rows_in p last r = rows_from p.words.now p.rows.now last r
 
 -- the arms of a match of level l before these rows
 unfoldable pub arms_in : ℕ → List Row → Arms

@@ -6,18 +6,21 @@ use Rattle.plan.specs.Lookup.{binding_at}
 use Rattle.codegen.specs.Writer.{Marks, contains}
 use Rattle.schedule_rules.specs.Faults.{any, calls_below, calls}
 use Rattle.schedule_rules.specs.Found.{Lower}
-use Rattle.expr_faults.specs.Kept.{TermsHeld, bindings_in, Known, Latest}
+use Rattle.view.specs.Buffers.{env_of}
+use Rattle.expr_faults.specs.Kept.{bindings_of, Known, Latest}
+use Rattle.expr_faults.specs.declared.kept.Kept.{Kept}
+use Rattle.expr_faults.specs.declared.written.Bindings.{Bindings}
 
 -- where the names are `bound`, what is kept for the number says of each binding whether a call that returns many is written with it
-pub record Ready (words rows tables : List ℕ) (t : ℕ) (bound : Marks) (number : ℕ) (kept : List ℕ) : Type 0 where
-  pub low : 0 < number
-  pub room : number < 4294967295
-  pub latest : Latest number kept
-  pub known : (env : Environment) → TermsHeld env words rows tables → Lower (bindings_in words rows tables t) → Known (calls env (bindings_in words rows tables t) bound) number kept
+pub record Ready (t : Bindings) (bound : Marks) (k : Kept) : Type 0 where
+  pub low : 0 < k.number
+  pub room : k.number < 4294967295
+  pub latest : Latest k.number k.answers.now
+  pub known : Lower (bindings_of t) → Known (calls (env_of t.plan.now) (bindings_of t) bound) k.number k.answers.now
 
--- of the bindings of table t, r is what x says
-pub record Decides (words rows tables : List ℕ) (t : ℕ) (x : Environment → List BindingRow → Bool) (r : Bool) : Type 0 where
-  pub is : (env : Environment) → TermsHeld env words rows tables → Lower (bindings_in words rows tables t) → r ≡ x env (bindings_in words rows tables t)
+-- of these bindings, r is what x says
+pub record Decides (t : Bindings) (x : Environment → List BindingRow → Bool) (r : Bool) : Type 0 where
+  pub is : Lower (bindings_of t) → r ≡ x (env_of t.plan.now) (bindings_of t)
 
 -- (b) of one member of a list
 unfoldable pub member_calls : Environment → List BindingRow → Marks → ℕ → Bool

@@ -6,14 +6,16 @@ use Rattle.codegen.specs.Block.{Purpose}
 use Rattle.origin.specs.Names.{inside, opens}
 use Rattle.row_frames.specs.Told.{opens_told}
 use Rattle.schedule_rules.specs.Faults.{loop_unbound, check_calls, match_uses_own}
+use Rattle.expr_faults.specs.declared.kept.Kept.{Kept}
+use Rattle.expr_faults.specs.declared.written.Bindings.{Bindings}
 use Rattle.row_faults.specs.Ready.{Ready, Decides}
 use Rattle.row_faults.specs.declared.check.Step.{Step}
 
 -- a step k of level l before the rows rs, after its list, where the names are m: they are m' inside the frame that it opens
-pub record JudgesStep (words rows tables : List ℕ) (t : ℕ) (k : ControlFlow) (l : ℕ) (rs : List Row) (m m' : Marks) (kept : List ℕ) (s : Step) : Type 0 where
-  pub ready : Ready words rows tables t m' s.number kept
+pub record JudgesStep (t : Bindings) (k : ControlFlow) (l : ℕ) (rs : List Row) (m m' : Marks) (kept : Kept) (s : Step) : Type 0 where
+  pub ready : Ready t m' kept
   pub names : (p : Purpose) (xs : List ℕ) → m' ≡ inside p (step l k xs) rs m
   pub frame : (p : Purpose) (xs : List ℕ) → opens_told s.opens ≡ opens p (step l k xs) rs
-  pub faults_a : Decides words rows tables t (λ env bs. loop_unbound bs m k) s.a
-  pub faults_b : Decides words rows tables t (λ env bs. check_calls env bs m l k rs) s.b
-  pub faults_c : Decides words rows tables t (λ env bs. match_uses_own bs m l k rs) s.c
+  pub faults_a : Decides t (λ env bs. loop_unbound bs m k) s.faults.a
+  pub faults_b : Decides t (λ env bs. check_calls env bs m l k rs) s.faults.b
+  pub faults_c : Decides t (λ env bs. match_uses_own bs m l k rs) s.faults.c

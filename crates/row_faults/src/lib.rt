@@ -6,10 +6,3 @@ pub mod list;
 pub mod matches;
 pub mod names;
 pub mod row;
-
-// Whether there is a fault, and the number for which answers are kept from then on.
-#[derive(Clone, Copy)]
-pub struct Judged {
-    pub found: bool,
-    pub number: u32,
-}

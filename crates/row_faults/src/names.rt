@@ -1,54 +1,36 @@
 // Bindings get names. The answers that were kept for the names before are given up only where a name is new.
-ghost use Rattle.std.specs.Prelude.{◌≡◌, false, ◌||◌, [], ◌∷◌, drop};
+ghost use Rattle.std.specs.Prelude.{◌≡◌, false, [], ◌∷◌, drop};
 ghost use Rattle.codegen.specs.Writer.{insert};
 ghost use Rattle.codegen.specs.Pattern.{bind_all};
 ghost use Rattle.rows.specs.View.{pattern_of, patterns_in};
-ghost use Rattle.layout.specs.View.{cut};
+ghost use Rattle.view.specs.Buffers.{words_of};
 ghost use Rattle.emits.specs.Marks.{set_of};
+ghost use Rattle.expr_faults.specs.declared.written.Bindings.{Bindings};
 ghost use Rattle.row_faults.specs.Ready.{Ready};
 
 use emits::stablemapset::{contains, insert};
-use expr_faults::raise;
-
-pub fn either(a: bool, b: bool) -> bool
-    ensures { result ≡ (a || b) }
-{
-    if a {
-        return true;
-    }
-    b
-}
+use expr_faults::kept::Kept;
+use view::buffers::Plan;
 
 // Binding b gets a name.
-pub fn bind(
-    kept: &mut [u32; 1024],
-    number: u32,
-    bound: &mut [bool],
-    words: &[u32],
-    rows: &[u32],
-    tables: &[u32],
-    t: usize,
-    b: usize,
-) -> u32
-    requires { Ready words.now rows.now tables.now t (set_of bound.old) number kept.old }
-    ensures { (set_of bound.new ≡ insert (set_of bound.old) b) × Ready words.now rows.now tables.now t (set_of bound.new) result kept.new }
+pub fn bind(kept: &mut Kept<'_>, bound: &mut [bool], b: usize)
+    ensures names { set_of bound.new ≡ insert (set_of bound.old) b }
+    ensures ready { (t : Bindings) → Ready t (set_of bound.old) kept.old → Ready t (set_of bound.new) kept.new }
 {
     if contains(bound, b) {
-        return number;
+        return;
     }
     insert(bound, b);
-    raise(kept, number)
+    kept.raise();
 }
 
 // One binding of a pattern, or `_`: whether it is a new name.
 #[tactic(auto, using(row_frames::specs::Patterns::bind_none, row_frames::specs::Patterns::bind_some, crate::proofs::Laws::bind_there))]
 fn bind_pattern(bound: &mut [bool], b: usize) -> bool
-    ensures { (set_of bound.new ≡ bind_all (pattern_of b ∷ []) (set_of bound.old)) × (result ≡ false → set_of bound.new ≡ set_of bound.old) }
+    ensures names { set_of bound.new ≡ bind_all (pattern_of b ∷ []) (set_of bound.old) }
+    ensures same { result ≡ false → set_of bound.new ≡ set_of bound.old }
 {
-    if b == 65537 {
-        return false;
-    }
-    if contains(bound, b) {
+    if b == 65537 || contains(bound, b) {
         return false;
     }
     insert(bound, b);
@@ -56,15 +38,14 @@ fn bind_pattern(bound: &mut [bool], b: usize) -> bool
 }
 
 // The bindings of the pattern of row r get names: whether one of them is new.
-pub fn bind_patterns(bound: &mut [bool], words: &[u32], rows: &[u32], r: usize) -> bool
-    ensures { (set_of bound.new ≡ bind_all (patterns_in (drop 7 (cut words.now rows.now r))) (set_of bound.old)) × (result ≡ false → set_of bound.new ≡ set_of bound.old) }
+pub fn bind_patterns(bound: &mut [bool], plan: &Plan<'_>, r: usize) -> bool
+    ensures names { set_of bound.new ≡ bind_all (patterns_in (drop 7 (words_of plan.now r))) (set_of bound.old) }
+    ensures same { result ≡ false → set_of bound.new ≡ set_of bound.old }
 {
-    let row = view::row(words, rows, r);
+    let row = plan.row(r);
     let mut new = false;
-    let mut k = 7;
-    while k < row.len() {
-        new = either(bind_pattern(bound, view::wide(row[k])), new);
-        k += 1;
+    for k in 7..row.len() {
+        new |= bind_pattern(bound, view::wide(row[k]));
     }
     new
 }

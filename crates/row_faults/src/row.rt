@@ -2,19 +2,21 @@
 ghost use Rattle.std.specs.Prelude.{◌≡◌, false, ◌+◌, ◌<◌, length, drop};
 ghost use Rattle.codegen.specs.Pattern.{bind_all};
 ghost use Rattle.rows.specs.View.{nth, patterns_in, block_of};
-ghost use Rattle.layout.specs.View.{cut};
-ghost use Rattle.row_frames.specs.Rows.{rows_from};
+ghost use Rattle.view.specs.Buffers.{words_of};
+ghost use Rattle.row_faults.specs.Arms.{rows_in};
 ghost use Rattle.row_frames.specs.Scopes.{Saved};
 ghost use Rattle.row_frames.specs.Told.{purpose_told};
 ghost use Rattle.emits.specs.Marks.{set_of};
 ghost use Rattle.row_faults.specs.Ready.{Ready};
 ghost use Rattle.row_faults.specs.Row.{JudgesArm, JudgesRow};
 
-use super::check::{Step, judge_check};
+use super::check::{Letters, Step, judge_check};
 use super::list::list_calls;
-use super::names::{bind_patterns, either};
-use expr_faults::raise;
-use row_frames::{Opens, Purpose};
+use super::names::bind_patterns;
+use expr_faults::kept::Kept;
+use expr_faults::written::Bindings;
+use row_frames::Purpose;
+use view::buffers::Plan;
 
 // The names are kept at a place, unless row r is a `return`, which opens no frame.
 #[tactic(auto, using(row_frames::specs::Scopes::saved_none, row_frames::specs::Scopes::saved_set))]
@@ -22,109 +24,80 @@ fn keep_names(
     scopes: &mut [[bool; 1024]],
     top: usize,
     bound: &[bool; 1024],
-    words: &[u32],
-    rows: &[u32],
+    plan: &Plan<'_>,
     r: usize,
 )
     requires { top < length scopes.old }
-    ensures { Saved (nth (cut words.now rows.now r) 1) scopes.old top bound.now scopes.new }
+    ensures { Saved (nth (words_of plan.now r) 1) scopes.old top bound.now scopes.new }
 {
-    if view::word(words, rows, r, 1) == 3 {
+    if plan.word(r, 1) == 3 {
         return;
     }
     scopes[top] = *bound;
 }
 
 // The bindings of the pattern of row r get names.
-fn name_patterns(
-    kept: &mut [u32; 1024],
-    number: u32,
-    bound: &mut [bool],
-    words: &[u32],
-    rows: &[u32],
-    tables: &[u32],
-    t: usize,
-    r: usize,
-) -> u32
-    requires { Ready words.now rows.now tables.now t (set_of bound.old) number kept.old }
-    ensures { (set_of bound.new ≡ bind_all (patterns_in (drop 7 (cut words.now rows.now r))) (set_of bound.old)) × Ready words.now rows.now tables.now t (set_of bound.new) result kept.new }
+fn name_patterns(kept: &mut Kept<'_>, bound: &mut [bool], bindings: &Bindings<'_>, r: usize)
+    requires { Ready bindings.now (set_of bound.old) kept.old }
+    ensures names { set_of bound.new ≡ bind_all (patterns_in (drop 7 (words_of bindings.now.plan.now r))) (set_of bound.old) }
+    ensures ready { Ready bindings.now (set_of bound.new) kept.new }
 {
-    if bind_patterns(bound, words, rows, r) {
-        return raise(kept, number);
+    if bind_patterns(bound, bindings.plan, r) {
+        kept.raise();
     }
-    number
 }
 
 // A row without a fault.
-fn faultless(number: u32, opens: Opens) -> Step
-    ensures { (result.a ≡ false) × (result.b ≡ false) × (result.c ≡ false) × (result.number ≡ number) × (result.opens ≡ opens) }
+fn faultless(opens: Option<Purpose>) -> Step
+    ensures { (result.faults.a ≡ false) × (result.faults.b ≡ false) × (result.faults.c ≡ false) × (result.opens ≡ opens) }
 {
     Step {
-        a: false,
-        b: false,
-        c: false,
-        number: number,
-        opens: opens,
+        faults: Letters::NONE,
+        opens,
     }
 }
 
 // Row r, an arm inside a frame of a purpose.
 fn judge_arm(
-    kept: &mut [u32; 1024],
-    number: u32,
+    kept: &mut Kept<'_>,
     bound: &mut [bool],
-    words: &[u32],
-    rows: &[u32],
-    tables: &[u32],
-    t: usize,
+    bindings: &Bindings<'_>,
     r: usize,
     purpose: Purpose,
 ) -> Step
-    requires { Ready words.now rows.now tables.now t (set_of bound.old) number kept.old }
-    ensures { JudgesArm words.now rows.now tables.now t (purpose_told purpose) (patterns_in (drop 7 (cut words.now rows.now r))) (set_of bound.old) (set_of bound.new) kept.new result }
+    requires { Ready bindings.now (set_of bound.old) kept.old }
+    ensures { JudgesArm bindings.now (purpose_told purpose) (patterns_in (drop 7 (words_of bindings.now.plan.now r))) (set_of bound.old) (set_of bound.new) kept.new result }
 {
     match purpose {
-        Purpose::OneArm => faultless(number, Opens::Nothing),
         Purpose::ArmsOf(_) => {
-            let next = name_patterns(kept, number, bound, words, rows, tables, t, r);
-            faultless(next, Opens::Frame(Purpose::ArmBody))
+            name_patterns(kept, bound, bindings, r);
+            faultless(Some(Purpose::ArmBody))
         }
-        Purpose::ArmBody => faultless(number, Opens::Nothing),
-        Purpose::Body => faultless(number, Opens::Nothing),
+        _ => faultless(None),
     }
 }
 
 // Row r, before the rows up to row `last`, inside a frame of a purpose; the names where the frame that it opens closes are kept at a place.
 pub fn judge_row(
-    kept: &mut [u32; 1024],
-    number: u32,
+    kept: &mut Kept<'_>,
     bound: &mut [bool; 1024],
     scopes: &mut [[bool; 1024]],
     top: usize,
-    words: &[u32],
-    rows: &[u32],
-    tables: &[u32],
-    t: usize,
+    bindings: &Bindings<'_>,
     r: usize,
     last: usize,
     purpose: Purpose,
 ) -> Step
-    requires { (top < length scopes.old) × (r < last) × (last < 4294967296) × Ready words.now rows.now tables.now t (set_of bound.old) number kept.old }
-    ensures { JudgesRow words.now rows.now tables.now t (purpose_told purpose) (nth (cut words.now rows.now r) 1) (block_of (cut words.now rows.now r)) (rows_from words.now rows.now last (r + 1)) (set_of bound.old) (set_of bound.new) scopes.old top scopes.new kept.new result }
+    requires { (top < length scopes.old) × (r < last) × (last < 4294967296) × Ready bindings.now (set_of bound.old) kept.old }
+    ensures { JudgesRow bindings.now (purpose_told purpose) (nth (words_of bindings.now.plan.now r) 1) (block_of (words_of bindings.now.plan.now r)) (rows_in bindings.now.plan.now last (r + 1)) (set_of bound.old) (set_of bound.new) scopes.old top scopes.new kept.new result }
 {
-    if !view::block::is_step(words, rows, r) {
-        keep_names(scopes, top, bound, words, rows, r);
-        return judge_arm(kept, number, bound, words, rows, tables, t, r, purpose);
+    if !bindings.plan.is_step(r) {
+        keep_names(scopes, top, bound, bindings.plan, r);
+        return judge_arm(kept, bound, bindings, r, purpose);
     }
-    let list = list_calls(kept, number, bound, words, rows, tables, t, r);
-    keep_names(scopes, top, bound, words, rows, r);
-    let s = judge_check(kept, list.number, bound, words, rows, tables, t, r, last);
-    let opens = s.opens;
-    Step {
-        a: s.a,
-        b: either(list.found, s.b),
-        c: s.c,
-        number: s.number,
-        opens: opens,
-    }
+    let calls = list_calls(kept, bound, bindings, r);
+    keep_names(scopes, top, bound, bindings.plan, r);
+    let mut s = judge_check(kept, bound, bindings, r, last);
+    s.faults.b |= calls;
+    s
 }

@@ -1,11 +1,10 @@
 -- What the declared types say in the definition's terms. Assumes nothing: these are definitions.
-use Rattle.std.specs.Prelude.{ℕ}
+use Rattle.std.specs.Prelude as code
+use Rattle.std.specs.Prelude.{ℕ, Some, None}
 use Rattle.std.proofs.Math.Option.{Option, some, none}
 use Rattle.codegen.specs.Block as block
 use Rattle.row_frames.specs.declared.Purpose.{Purpose}
 use Rattle.row_frames.specs.declared.Purpose.TheVariants as p
-use Rattle.row_frames.specs.declared.Opens.{Opens}
-use Rattle.row_frames.specs.declared.Opens.TheVariants as o
 
 abbrev pub purpose_told : Purpose → block.Purpose
 purpose_told p.OneArm = block.one_arm
@@ -13,9 +12,9 @@ purpose_told (p.ArmsOf q) = block.arms_of q
 purpose_told p.ArmBody = block.arm_body
 purpose_told p.Body = block.body
 
-abbrev pub opens_told : Opens → Option block.Purpose
-opens_told o.Nothing = none
-opens_told (o.Frame p) = some (purpose_told p)
+abbrev pub opens_told : code.Option Purpose → Option block.Purpose
+opens_told None = none
+opens_told (Some p) = some (purpose_told p)
 
 -- what the frame that a row opens is for, and how many it opens
 abbrev pub opened : Option block.Purpose → block.Purpose

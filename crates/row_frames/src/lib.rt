@@ -1,4 +1,4 @@
-// Which frames the rows of a block open, and what for.
+// Which frames the rows of a block open, and what for: a row opens one, which is for a purpose, or none.
 #![tactic(auto)]
 
 ghost use Rattle.std.specs.Prelude.{◌≡◌, ◌≤◌};
@@ -13,29 +13,16 @@ pub enum Purpose {
     Body,
 }
 
-// The frame that a row opens.
-#[derive(Clone, Copy)]
-pub enum Opens {
-    Nothing,
-    Frame(Purpose),
-}
-
 // What the frame that a row opens is for; a row that opens none is given what the root is for.
-pub fn purpose_of(opens: Opens) -> Purpose
+pub fn purpose_of(opens: Option<Purpose>) -> Purpose
     ensures { purpose_told result ≡ opened (opens_told opens) }
 {
-    match opens {
-        Opens::Nothing => Purpose::Body,
-        Opens::Frame(p) => p,
-    }
+    opens.unwrap_or(Purpose::Body)
 }
 
 // How many frames a row opens.
-pub fn frame_count(opens: Opens) -> usize
+pub fn frame_count(opens: Option<Purpose>) -> usize
     ensures { (result ≡ opening (opens_told opens)) × (result ≤ 1) }
 {
-    match opens {
-        Opens::Nothing => 0,
-        Opens::Frame(_) => 1,
-    }
+    usize::from(opens.is_some())
 }

@@ -1,2 +1,4 @@
 pub mod Row
 pub mod View
+pub mod Kinds
+pub mod Table

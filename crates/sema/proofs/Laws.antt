@@ -15,7 +15,9 @@ use Rattle.plan.specs.Plan.{Fields, unit, TypeData, Builtin, Primitive, Enum, St
 use Rattle.plan.specs.Lookup.{type_at, variants_of, variant_at, fields_of, term_at}
 use Rattle.rows.specs.View.{nth, fields_in, shape_of, declared_of, type_of, variant_of, term_of, function_of, flagged}
 use Rattle.layout.specs.View.{cut, text_of, environment_of}
-use Rattle.view.specs.Tables.{table_rows, tables_in, environment_in}
+use Rattle.view.specs.Tables.{table_rows, environment_in}
+use Rattle.view.specs.Buffers.{words_of, rows_of, variants_in, env_of}
+use Rattle.view.specs.declared.buffers.Plan.{Plan}
 use Rattle.view.proofs.Laws.{row_length}
 use Rattle.view.proofs.Made.{fields_length}
 use Rattle.view.proofs.Plans.{table_of, types_count, builtin_is, type_is, term_is}
@@ -25,7 +27,7 @@ use Rattle.codegen.specs.Piece.{fix, sym_text, pos_text, type_text}
 use Rattle.codegen.specs.ReturnKind.{ReturnKind}
 use Rattle.codegen.specs.ReturnKind as kind
 use Rattle.codegen.specs.Sema.{is_ref_type, is_ref, int_type, func_name_of, full_name_of, is_external, extractor_sig, constructor_sig}
-use Rattle.sema.specs.Holds.{Holds}
+use Rattle.sema.specs.Holds.{Holds, VariantsIndexed, held}
 
 -- LISTS
 
@@ -61,7 +63,7 @@ list_fits words rows r header = rw (length-drop header (cut words rows r)) (omeg
 
 -- SIGNATURES
 
-told_constructor : (m : Term) (f : FunctionKind) (k : ReturnKind) → f ≡ m.ctor → k ≡ cond m.multi kind.Iterator (cond m.partial kind.Option kind.Plain)
+pub told_constructor : (m : Term) (f : FunctionKind) (k : ReturnKind) → f ≡ m.ctor → k ≡ cond m.multi kind.Iterator (cond m.partial kind.Option kind.Plain)
     → record { func_name = func_name_of f (fix "constructor_" refl) m; full_name = full_name_of f (fix "constructor_" refl) m; param_tys = m.arg_tys; ret_tys = m.ret_ty ∷ []; ret_kind = k } ≡ constructor_sig m
 unfolding constructor_sig
 told_constructor m f k p q = rw (p, q) refl
@@ -70,7 +72,7 @@ either : (b : Bool) → cond (not b) kind.Option kind.Plain ≡ cond b kind.Plai
 either true = refl
 either false = refl
 
-told_extractor : (m : Term) (f : FunctionKind) (k : ReturnKind) → f ≡ m.xtor → k ≡ cond m.multi kind.Iterator (cond (not (m.infallible && is_external f)) kind.Option kind.Plain)
+pub told_extractor : (m : Term) (f : FunctionKind) (k : ReturnKind) → f ≡ m.xtor → k ≡ cond m.multi kind.Iterator (cond (not (m.infallible && is_external f)) kind.Option kind.Plain)
     → record { func_name = func_name_of f (fix "extractor_" refl) m; full_name = full_name_of f (fix "extractor_" refl) m; param_tys = m.ret_ty ∷ []; ret_tys = m.arg_tys; ret_kind = k } ≡ extractor_sig m
 unfolding extractor_sig
 told_extractor m f k p q = rw (q, either (m.infallible && is_external f), p) refl
@@ -87,7 +89,7 @@ no_int ws = by_kind (eqb (nth ws 0) 0) (eqb (nth ws 0) 1) where
   by_kind false false = refl
 
 -- its name is its second word
-named_by : (env : Environment) (ws : List ℕ) → type_text env (type_of ws) ≡ sym_text env (nth ws 1)
+pub named_by : (env : Environment) (ws : List ℕ) → type_text env (type_of ws) ≡ sym_text env (nth ws 1)
 unfolding type_of type_text
 named_by env ws = by_kind (eqb (nth ws 0) 0) (eqb (nth ws 0) 1) where
   by_kind : (a b : Bool) → type_text env (cond a (Primitive (nth ws 1)) (cond b (Enum (declared_of ws)) (Struct (declared_of ws) (shape_of (nth ws 0 - 2) (drop 5 ws))))) ≡ sym_text env (nth ws 1)
@@ -116,7 +118,17 @@ pub row_fields : (ws : List ℕ) (k : ℕ) → k ≡ nth ws 0 → 2 ≤ k → sh
 unfolding type_of
 row_fields ws k q h = rw (← q, ne_eqb k 0 (λ p. omega arith), ne_eqb k 1 (λ p. omega arith)) refl
 
-module _ {env : Environment} {plan words rows tables index : List ℕ} (h : Holds env plan words rows tables index) where
+-- the environment is that of the buffers
+pub record Read (env : Environment) (plan words rows tables : List ℕ) : Type 0 where
+  pub is : env ≡ environment_in plan words rows tables
+
+pub read : {env : Environment} {plan words rows tables index : List ℕ} → Holds env plan words rows tables index → Read env plan words rows tables
+read h = record { is = h.is }
+
+pub here : (p : Plan) → Read (env_of p) p.bytes.now p.words.now p.rows.now p.tables.now
+here p = record { is = refl }
+
+module _ {env : Environment} {plan words rows tables : List ℕ} (h : Read env plan words rows tables) where
   -- TEXTS
 
   pub file_is : (n : ℕ) → text_of plan (get_or (table_rows words rows tables 1) n []) ≡ get_or env.files n []
@@ -184,6 +196,7 @@ module _ {env : Environment} {plan words rows tables index : List ℕ} (h : Hold
   unfolding type_of
   fields_row n g = by_type fields_of n g refl
 
+module _ {env : Environment} {plan words rows tables index : List ℕ} (h : Holds env plan words rows tables index) where
   -- VARIANTS
 
   pub variants_numbered : (n : ℕ) → n < 256 → length (cut index index n) ≡ length (variants_of n env.variants)
@@ -195,7 +208,7 @@ module _ {env : Environment} {plan words rows tables index : List ℕ} (h : Hold
   pub variant_none : (n k : ℕ) → length (variants_of n env.variants) ≤ k → (0 ≡ (variant_at env n k).name) × (unit ≡ (variant_at env n k).fields)
   variant_none n k g = rw (get_or-eq_default (variants_of n env.variants) (record { ty = 0; name = 0; fields = unit }) g) (refl, refl)
 
-  variant_row : (n k : ℕ) → k < length (variants_of n env.variants) → variant_of (cut words rows (nth (cut index index n) k)) ≡ variant_at env n k
+  pub variant_row : (n k : ℕ) → k < length (variants_of n env.variants) → variant_of (cut words rows (nth (cut index index n) k)) ≡ variant_at env n k
   variant_row n k g = by_test (ltb n 256) refl where
     by_test : (b : Bool) → ltb n 256 ≡ b → variant_of (cut words rows (nth (cut index index n) k)) ≡ variant_at env n k
     by_test true t =
@@ -231,3 +244,23 @@ module _ {env : Environment} {plan words rows tables index : List ℕ} (h : Hold
         × (f ≡ (term_at env n).xtor)
     unfolding term_of
     extractor_row p q = rw (← ap term_of row ∙ term_row n) (told_extractor (term_of ws) f k p q, p)
+
+-- OF A PLAN: what the answers of its methods share
+
+module _ (p : Plan) where
+  -- a type that has no row, as it is a builtin one or past the last
+  pub type_below : (n : ℕ) → n < 13 → Builtin (get_or all n builtin.Bool) ≡ type_at (env_of p) n
+  type_below n g = type_builtin (here p) n g
+
+  pub type_above : (n : ℕ) → 13 ≤ n → length (rows_of p 4) ≤ n - 13 → Builtin (get_or all n builtin.Bool) ≡ type_at (env_of p) n
+  type_above n g k = ap Builtin (get_or-eq_default all builtin.Bool {n = n} g) ∙ type_past (here p) n g k
+
+  pub type_in_row : (n i r : ℕ) → 13 ≤ n → i ≡ n - 13 → words_of p r ≡ get_or (rows_of p 4) i [] → i < length (rows_of p 4) → type_of (words_of p r) ≡ type_at (env_of p) n
+  type_in_row n i r g e q k = ap type_of (rw e at q) ∙ type_row (here p) n g (rw e at k)
+
+  pub term_in_row : (n r : ℕ) → words_of p r ≡ get_or (rows_of p 6) n [] → term_of (words_of p r) ≡ term_at (env_of p) n
+  term_in_row n r q = ap term_of q ∙ sym (term_is p.words.now p.rows.now p.tables.now p.bytes.now n)
+
+  -- the variants of a type that has a place in the index
+  pub variants_counted : (n : ℕ) → VariantsIndexed p → n < 256 → length (variants_in p n) ≡ length (variants_of n (env_of p).variants)
+  variants_counted n h g = variants_numbered (held h) n g

@@ -1,4 +1,5 @@
 pub mod Fields
 pub mod Holds
 pub mod Signature
+pub mod Texts
 pub mod Types

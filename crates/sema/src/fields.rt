@@ -1,17 +1,23 @@
 // Fields of structs and variants, by value: the shape, the row whose list they are, and how many words stand before that list.
 ghost use Rattle.std.specs.Prelude.{◌≡◌, List, ℕ, length, get_or, drop};
 ghost use Rattle.text.specs.Sink.{Puts};
+ghost use Rattle.text.specs.Writes.{Writes};
 ghost use Rattle.plan.specs.Plan.{Environment};
 ghost use Rattle.plan.specs.Lookup.{type_at, variants_of, variant_at, fields_of, field_count};
 ghost use Rattle.rows.specs.View.{nth, shape_of, fields_in};
 ghost use Rattle.layout.specs.View.{cut};
 ghost use Rattle.codegen.specs.Piece.{bytes};
 ghost use Rattle.codegen.specs.Sema.{field_name, field_type};
+ghost use Rattle.view.specs.Buffers.{words_of, env_of};
 ghost use Rattle.sema.specs.Holds.{Holds};
-ghost use Rattle.sema.specs.Fields.{fields_held};
+ghost use Rattle.sema.specs.Fields.{fields_held, fields_read};
 
+use super::texts::{Text, put_text};
+use super::types::TypeId;
 use literal::builtin_type::BuiltinType;
 use text::number::put_decimal;
+use text::sink::Sink;
+use view::buffers::Plan;
 use view::environment::Shape;
 
 #[derive(Clone, Copy)]
@@ -108,13 +114,6 @@ pub fn list_word(words: &[u32], rows: &[u32], r: usize, header: usize, i: usize)
     view::word(words, rows, r, header + i)
 }
 
-pub fn field_count(words: &[u32], rows: &[u32], f: Fields) -> usize
-    ensures { result ≡ field_count (fields_held words.now rows.now f) }
-{
-    let s = f.shape;
-    view::environment::field_count(words, rows, f.row, f.header, s)
-}
-
 // The name of a named field, and its type.
 fn field_sym(words: &[u32], rows: &[u32], r: usize, header: usize, i: usize) -> usize
     ensures { result ≡ (get_or (fields_in (drop header (cut words.now rows.now r))) i (record { name = 0; ty = 0 })).name }
@@ -167,5 +166,57 @@ pub fn put_field_name(
             super::names::put_sym(out, at, end, plan, words, rows, tables, name)
         }
         Shape::Tuple => put_decimal(out, at, end, i as u64),
+    }
+}
+
+// A named field: the numbers of its name and of its type.
+#[derive(Clone, Copy)]
+struct Field {
+    name: usize,
+    ty: usize,
+}
+
+impl Fields {
+    // How many there are.
+    pub fn count(self, plan: &Plan<'_>) -> usize
+        ensures { result ≡ field_count (fields_read plan.now self) }
+    {
+        plan.field_count(self.row, self.header, self.shape)
+    }
+
+    // The named field i.
+    fn named(self, plan: &Plan<'_>, i: usize) -> Field
+        ensures { let f = get_or (fields_in (drop self.header (words_of plan.now self.row))) i (record { name = 0; ty = 0 }) in (result.name ≡ f.name) × (result.ty ≡ f.ty) }
+    {
+        if plan.list_len(self.row, self.header) / 2 <= i {
+            return Field { name: 0, ty: 0 };
+        }
+        Field {
+            name: plan.list_word(self.row, self.header, 2 * i),
+            ty: plan.list_word(self.row, self.header, 2 * i + 1),
+        }
+    }
+
+    // The type of the field i.
+    #[tactic(auto, unfolding(codegen::specs::Sema::field_type))]
+    pub fn ty(self, plan: &Plan<'_>, i: usize) -> TypeId
+        ensures { result.0 ≡ field_type (fields_read plan.now self) i }
+    {
+        TypeId(match self.shape {
+            Shape::Unit => 0,
+            Shape::Named => self.named(plan, i).ty,
+            Shape::Tuple => plan.list_word(self.row, self.header, i),
+        })
+    }
+
+    // Its name, put into the sink; in a tuple it is its number.
+    #[tactic(auto, unfolding(codegen::specs::Sema::field_name, codegen::specs::Piece::bytes))]
+    pub fn put_name(self, w: &mut Sink<'_>, plan: &Plan<'_>, i: usize)
+        ensures { let env = env_of plan.now in (d : ℕ) → Writes (bytes env d (field_name (fields_read plan.now self) i)) w.old w.new }
+    {
+        match self.shape {
+            Shape::Named => put_text(w, plan, Text::Sym, self.named(plan, i).name),
+            Shape::Unit | Shape::Tuple => w.put_decimal(i as u64),
+        }
     }
 }

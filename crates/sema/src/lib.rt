@@ -5,4 +5,5 @@
 pub mod fields;
 pub mod names;
 pub mod signature;
+pub mod texts;
 pub mod types;

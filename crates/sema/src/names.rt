@@ -7,23 +7,7 @@ ghost use Rattle.codegen.specs.Piece.{sym_text, pos_text};
 ghost use Rattle.sema.specs.Holds.{Holds};
 
 use literal::quote::put_quoted;
-use text::sink::put_bytes;
-
-pub fn put_file(
-    out: &mut [u8],
-    at: usize,
-    end: usize,
-    plan: &[u8],
-    words: &[u32],
-    rows: &[u32],
-    tables: &[u32],
-    n: usize,
-) -> usize
-    ensures { (env : Environment) (index : List ℕ) → Holds env plan.now words.now rows.now tables.now index → Puts end (get_or env.files n []) out.old at out.new result }
-{
-    let file = view::row_at(rows, tables, 1, n);
-    put_bytes(out, at, end, view::text_at(plan, words, rows, file))
-}
+use text::sink::{Sink, put_bytes};
 
 pub fn put_sym(
     out: &mut [u8],
@@ -70,7 +54,14 @@ pub fn put_quoted_sym(
     ensures { (env : Environment) (index : List ℕ) → Holds env plan.now words.now rows.now tables.now index → Puts end (quoted (sym_text env n)) out.old at out.new result }
 {
     let quoted_sym = view::row_at(rows, tables, 2, n);
-    put_quoted(out, at, end, view::text_at(plan, words, rows, quoted_sym))
+    let mut w = Sink {
+        out,
+        at,
+        end,
+        odd: 0,
+    };
+    put_quoted(&mut w, view::text_at(plan, words, rows, quoted_sym));
+    w.at
 }
 
 pub fn put_quoted_pos(
@@ -86,5 +77,12 @@ pub fn put_quoted_pos(
     ensures { (env : Environment) (index : List ℕ) → Holds env plan.now words.now rows.now tables.now index → Puts end (quoted (pos_text env n)) out.old at out.new result }
 {
     let quoted_pos = view::row_at(rows, tables, 3, n);
-    put_quoted(out, at, end, view::text_at(plan, words, rows, quoted_pos))
+    let mut w = Sink {
+        out,
+        at,
+        end,
+        odd: 0,
+    };
+    put_quoted(&mut w, view::text_at(plan, words, rows, quoted_pos));
+    w.at
 }

@@ -1,44 +1,31 @@
 // Types by their number: `TypeEnv` of sema.rs, and `ty` of codegen.rs 610.
-ghost use Rattle.std.specs.Prelude.{◌≡◌, List, ℕ};
+ghost use Rattle.std.specs.Prelude.{◌≡◌, List, ℕ, length};
+ghost use Rattle.text.specs.Codes.{codes};
 ghost use Rattle.text.specs.Sink.{Puts};
-ghost use Rattle.literal.specs.BuiltinType.{builtin_int};
+ghost use Rattle.text.specs.Writes.{Writes};
+ghost use Rattle.literal.specs.BuiltinType.{builtin_int, name};
 ghost use Rattle.plan.specs.Plan.{Environment};
-ghost use Rattle.plan.specs.Lookup.{type_at};
+ghost use Rattle.plan.specs.Lookup.{type_at, variants_of, variant_at, fields_of};
 ghost use Rattle.codegen.specs.Piece.{type_text};
 ghost use Rattle.codegen.specs.Sema.{is_ref, int_type};
-ghost use Rattle.sema.specs.Holds.{Holds};
-ghost use Rattle.sema.specs.Types.{type_held};
+ghost use Rattle.view.specs.Buffers.{env_of};
+ghost use Rattle.view.specs.declared.buffers.Plan.{Plan};
+ghost use Rattle.sema.specs.Holds.{Holds, VariantsIndexed};
+ghost use Rattle.sema.specs.Fields.{fields_read};
+ghost use Rattle.sema.specs.Types.{type_held, type_read, type_by_row};
 
+use super::fields::{Fields, Variant};
+use super::texts::{Text, put_text};
 use literal::builtin_type::BuiltinType;
-use view::environment::TypeData;
+use text::sink::Sink;
+use view::buffers::Plan;
+use view::environment::{Shape, TypeData};
 
 // A type, and its row, whose list has a struct's fields.
 #[derive(Clone, Copy)]
 pub struct TypeRow {
     pub ty: TypeData,
     pub row: usize,
-}
-
-// The type number n.
-pub fn type_at(words: &[u32], rows: &[u32], tables: &[u32], n: usize) -> TypeRow
-    ensures { (env : Environment) (plan index : List ℕ) → Holds env plan words.now rows.now tables.now index → type_held words.now rows.now result ≡ type_at env n }
-{
-    if n < BuiltinType::COUNT {
-        let t = BuiltinType::from_index(n);
-        return TypeRow {
-            ty: TypeData::Builtin(t),
-            row: 0,
-        };
-    }
-    if view::row_count(tables, 4) <= n - BuiltinType::COUNT {
-        return TypeRow {
-            ty: TypeData::Builtin(BuiltinType::Bool),
-            row: 0,
-        };
-    }
-    let r = view::row_at(rows, tables, 4, n - BuiltinType::COUNT);
-    let t = view::environment::type_data_at(words, rows, r);
-    TypeRow { ty: t, row: r }
 }
 
 // `ty` of codegen.rs 610: whether a value of the type is passed by reference.
@@ -73,13 +60,150 @@ pub fn put_type(
     ensures { (env : Environment) (index : List ℕ) → Holds env plan.now words.now rows.now tables.now index → Puts end (type_text env (type_at env n)) out.old at out.new result }
 {
     if n < BuiltinType::COUNT {
+        let mut w = Sink {
+            out,
+            at,
+            end,
+            odd: 0,
+        };
         let t = BuiltinType::from_index(n);
-        return t.put_name(out, at, end);
+        t.put_name(&mut w);
+        return w.at;
     }
     if view::row_count(tables, 4) <= n - BuiltinType::COUNT {
-        return BuiltinType::Bool.put_name(out, at, end);
+        let mut w = Sink {
+            out,
+            at,
+            end,
+            odd: 0,
+        };
+        BuiltinType::Bool.put_name(&mut w);
+        return w.at;
     }
     let r = view::row_at(rows, tables, 4, n - BuiltinType::COUNT);
     let name = view::word(words, rows, r, 1);
     super::names::put_sym(out, at, end, plan, words, rows, tables, name)
+}
+
+// The name of a builtin type, put into the sink.
+fn put_builtin(w: &mut Sink<'_>, t: BuiltinType)
+    ensures { Writes (codes (name t)) w.old w.new }
+{
+    t.put_name(w);
+}
+
+// `TypeId` of sema.rs: a type by its number.
+#[derive(Clone, Copy, PartialEq, Eq)]
+pub struct TypeId(pub usize);
+
+impl TypeId {
+    // The type's row: a builtin type has none, nor has one that doesn't exist, which is taken for `bool`.
+    #[tactic(auto, using(crate::proofs::Laws::type_below, crate::proofs::Laws::type_above))]
+    fn row(self, plan: &Plan<'_>) -> Option<usize>
+        ensures { type_by_row plan.now self.0 result ≡ type_at (env_of plan.now) self.0 }
+    {
+        let i = self.0.checked_sub(BuiltinType::COUNT)?;
+        if i < plan.row_count(4) {
+            Some(plan.row_at(4, i))
+        } else {
+            None
+        }
+    }
+
+    // The type, with its row.
+    pub fn data(self, plan: &Plan<'_>) -> TypeRow
+        ensures { type_read plan.now result ≡ type_at (env_of plan.now) self.0 }
+    {
+        let Some(row) = self.row(plan) else {
+            return TypeRow {
+                ty: TypeData::Builtin(BuiltinType::from_index(self.0)),
+                row: 0,
+            };
+        };
+        let ty = plan.type_at(row);
+        TypeRow { ty, row }
+    }
+
+    // `ty` of codegen.rs 610: whether a value of the type is passed by reference.
+    #[tactic(auto, using(crate::proofs::Laws::row_ref), unfolding(codegen::specs::Sema::is_ref_type))]
+    pub fn is_ref(self, plan: &Plan<'_>) -> bool
+        ensures { result ≡ is_ref (env_of plan.now) self.0 }
+    {
+        match self.row(plan) {
+            None => false,
+            Some(row) => plan.word(row, 0) != 0,
+        }
+    }
+
+    // The builtin type that a literal of the type is written as: `bool` stands for each type that is no integer type.
+    pub fn int_type(self) -> BuiltinType
+        ensures { (p : Plan) → builtin_int result ≡ int_type (type_at (env_of p) self.0) }
+    {
+        BuiltinType::from_index(self.0)
+    }
+
+    // `Type::name` of sema.rs 310, put into the sink.
+    #[tactic(auto, using(crate::proofs::Laws::named_by), unfolding(codegen::specs::Piece::type_text))]
+    pub fn put_name(self, w: &mut Sink<'_>, plan: &Plan<'_>)
+        ensures { let env = env_of plan.now in Writes (type_text env (type_at env self.0)) w.old w.new }
+    {
+        match self.row(plan) {
+            None => put_builtin(w, BuiltinType::from_index(self.0)),
+            Some(row) => put_text(w, plan, Text::Sym, plan.word(row, 1)),
+        }
+    }
+
+    // The fields of a struct: none if it is another type.
+    pub fn fields(self, plan: &Plan<'_>) -> Fields
+        ensures { fields_read plan.now result ≡ fields_of (type_at (env_of plan.now) self.0) }
+    {
+        let data = self.data(plan);
+        let shape = match data.ty {
+            TypeData::Struct(_, shape) => shape,
+            _ => Shape::Unit,
+        };
+        Fields {
+            shape,
+            row: data.row,
+            header: 5,
+        }
+    }
+
+    // How many variants an enum has: the index has places for 256 types, and no other type has variants.
+    #[tactic(auto, using(crate::proofs::Laws::variants_counted))]
+    pub fn variant_count(self, plan: &Plan<'_>) -> usize
+        ensures { VariantsIndexed plan.now → result ≡ length (variants_of self.0 (env_of plan.now).variants) }
+    {
+        if self.0 < 256 {
+            plan.variant_count(self.0)
+        } else {
+            0
+        }
+    }
+
+    // The variant k of an enum.
+    pub fn variant(self, plan: &Plan<'_>, k: usize) -> Variant
+        ensures { VariantsIndexed plan.now → let v = variant_at (env_of plan.now) self.0 k in (result.name ≡ v.name) × (fields_read plan.now result.fields ≡ v.fields) }
+    {
+        if self.variant_count(plan) <= k {
+            return Variant {
+                name: 0,
+                fields: Fields {
+                    shape: Shape::Unit,
+                    row: 0,
+                    header: 3,
+                },
+            };
+        }
+        let row = plan.variant_row(self.0, k);
+        let variant = plan.variant_at(row);
+        Variant {
+            name: variant.name,
+            fields: Fields {
+                shape: variant.shape,
+                row,
+                header: 3,
+            },
+        }
+    }
 }

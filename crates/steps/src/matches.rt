@@ -20,6 +20,7 @@ use pattern::bind::bind_all;
 use step_parts::heads::{match_head, one_arm_head};
 use text::sink::{put_byte, put_indent};
 use view::block::{Constraint, constraint_at, is_step};
+use view::buffers::Plan;
 
 // A match with one arm, which is row `first`: its bindings have names where its source is written, too.
 fn one_arm(
@@ -116,7 +117,14 @@ pub fn emit_match(
         };
     }
     let k = constraint_at(words, rows, first);
-    if weights::arm_count(words, rows, level, first, last) == 1 {
+    let buffers = Plan {
+        bytes: plan,
+        words,
+        rows,
+        tables,
+        index,
+    };
+    if weights::arm_count(&buffers, level, first, last) == 1 {
         let w = one_arm(
             out, end, at, odd, refs, bound, plan, words, rows, tables, index, t, depth, q, k, first,
         );

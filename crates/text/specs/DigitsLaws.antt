@@ -1,7 +1,7 @@
 -- Laws of digits, to any base: one digit more, a number cut into parts of some digits, and how many places digits need.
 use Rattle.std.specs.Prelude.{ℕ, zero, suc, ◌+◌, ◌-◌, ◌*◌, ◌/◌, ◌%◌, ◌^◌, ◌≤◌, ◌<◌, ◌≡◌, refl, Bool, true, false, List, [], ◌∷◌, ◌++◌, ltb}
-use Rattle.std.proofs.Common.{◌∙◌, append_assoc, append-nil, div-lt_iff_lt-mul, pow-suc, mul_assoc, mul-le-mul, mul-le-mul_right, add_comm, lt_of_lt_of_le, le_trans, lt_of_not-le, not-le_of_lt, arith, lit≤, lt-ltb, le-ltb, ltb-false}
-use Rattle.std.proofs.Math.Nat.{div-lt_self, pow-zero, one-le-pow, add-mul-div_right, add-mul-mod_self_right, pow-le-pow_left, pow-le-pow_right}
+use Rattle.std.proofs.Common.{◌∙◌, append_assoc, append-nil, div-lt_iff_lt-mul, pow-suc, add-one, mul_assoc, mul-le-mul, mul-le-mul_right, add_comm, lt_of_lt_of_le, le_trans, lt_of_not-le, not-le_of_lt, arith, lit≤, lt-ltb, le-ltb, ltb-false}
+use Rattle.std.proofs.Math.Nat.{div-lt_self, pow-zero, one-le-pow, div-one, div-div-eq-div-mul, add-mul-div_right, add-mul-mod_self_right, pow-le-pow_left, pow-le-pow_right}
 use Rattle.text.specs.Digits.{digit, digits, decimal, hexadecimal}
 
 -- exactly k digits of n to the base b, with zeros in front
@@ -71,9 +71,22 @@ part_less b k r h g l =
 pub forty_places : (b n : ℕ) → 10 ≤ b → n < 18446744073709551616 → n < b ^ 40
 forty_places b n h g = lt_of_lt_of_le g (le_trans {m = 10 ^ 40} (lit≤ tt) (pow-le-pow_left h 40))
 
+-- the quotients of a number that lost some digits, one after another
+pub quotient_none : (b n : ℕ) → n ≡ n / b ^ 0
+quotient_none b n = rw (pow-zero b, div-one)
+
+pub quotient_more : (b k n : ℕ) {r : ℕ} → r ≡ n / b ^ k → r / b ≡ n / b ^ (k + 1)
+quotient_more b k n q = rw (q, add-one, pow-suc) (div-div-eq-div-mul n (b ^ k) b)
+
 -- a number of more than m digits has more than m places
 pub places : (b m n k : ℕ) → 1 ≤ b → b ^ m ≤ n → n < b ^ k → m < k
 places b m n k l h g = lt_of_not-le (λ (q : k ≤ m). not-le_of_lt g (le_trans (pow-le-pow_right l q) h))
+
+-- and one of more than one digit more than one
+pub more_places : (b n k : ℕ) → 1 ≤ b → b ≤ n → n < b ^ k → 1 < k
+more_places b n k l h g =
+    let e : b ^ 1 ≡ b = rw (pow-suc b 0, pow-zero b) (omega arith) in
+    places b 1 n k l (rw e h) g
 
 pub decimal_one : (n : ℕ) → n < 10 → decimal n ≡ digit n ∷ []
 unfolding decimal
@@ -98,6 +111,9 @@ decimal_four n h =
     rw
     (decimal_more n (omega arith), decimal_more (n / 10) (omega arith), decimal_more (n / 10 / 10) (omega arith), decimal_more (n / 10 / 10 / 10) (omega arith))
     (simp append_assoc)
+
+pub quotient_four : (n : ℕ) → n / 10 ^ 4 ≡ n / 10 / 10 / 10 / 10
+quotient_four n = omega arith
 
 pub part_less_four : (k n : ℕ) → 4 ≤ k → n < 10 ^ k → n / 10 / 10 / 10 / 10 < 10 ^ (k - 4)
 part_less_four k n h g =

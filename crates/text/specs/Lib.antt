@@ -6,3 +6,4 @@ pub mod Sink
 pub mod SinkLaws
 pub mod Split
 pub mod Wide
+pub mod Writes

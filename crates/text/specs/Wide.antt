@@ -1,8 +1,13 @@
 -- Numbers of 128 bits in two halves: in hexadecimal, in decimal by groups of eight digits, and as a two's complement.
 use Rattle.std.specs.Prelude.{ℕ, suc, ◌+◌, ◌-◌, ◌*◌, ◌/◌, ◌%◌, ◌^◌, ◌≤◌, ◌<◌, ◌≡◌, ◌∷◌, ◌++◌}
 use Rattle.std.proofs.Common.{ap, ◌∙◌, append_assoc, mul-le-mul_right, lt_of_lt_of_le, le_trans, arith, lt-ltb, le-ltb}
+use Rattle.text.specs.declared.number.Wide.{Wide}
 use Rattle.text.specs.Digits.{decimal, hexadecimal, signed}
 use Rattle.text.specs.DigitsLaws.{padded, digits_split}
+
+-- the number that the code has in two halves
+abbrev pub whole : Wide → ℕ
+whole n = n.high * 2 ^ 64 + n.low
 
 -- n in groups of eight decimal digits
 pub record Grouped (n top high middle low : ℕ) : Type 0 where

@@ -1,10 +1,9 @@
 -- Tokens of a text: what the code finds between separators. Assumes nothing: these are definitions.
 use Rattle.std.specs.Prelude.{ℕ, zero, suc, ◌+◌, ◌-◌, ◌≤◌, ◌<◌, min, ◌≡◌, Bool, true, cond, ◌&&◌, List, [], ◌∷◌, eqb, leb, length, take, drop, get_or}
 use Rattle.std.proofs.Math.Option.{Option, some, none}
+use Rattle.std.specs.Prelude as code
 use Rattle.text.specs.Split.{split, same}
 use Rattle.plan.specs.Layout.{digits, decimal_from, beyond, digit, hex_digits, hex_from}
-use Rattle.tokens.specs.declared.Number.{Number}
-use Rattle.tokens.specs.declared.Number.TheVariants.{Value, Wrong}
 
 -- how many bytes stand before the first b
 unfoldable pub until : ℕ → List ℕ → ℕ
@@ -25,18 +24,6 @@ unfoldable pub place : List (List ℕ) → List ℕ → ℕ
 place [] t = 0
 place (n ∷ ns) t = let more = suc (place ns t) in cond (same t n) 0 more
 
--- the names of a text, each from its start up to the next one
-unfoldable pub named : List ℕ → List ℕ → List (List ℕ)
-named s [] = []
-named s (a ∷ []) = []
-named s (a ∷ b ∷ starts) = take (b - a) (drop a s) ∷ named s (b ∷ starts)
-
--- starts that rise, up to n
-unfoldable pub rising : ℕ → List ℕ → Bool
-rising n [] = true
-rising n (a ∷ []) = true
-rising n (a ∷ b ∷ starts) = leb a b && leb b n && rising n (b ∷ starts)
-
 -- a run of digits, after digits that say n
 unfoldable pub numeral : ℕ → List ℕ → Option ℕ
 numeral n s = cond (digits s) (some (min beyond (decimal_from n s))) none
@@ -50,6 +37,6 @@ unfoldable pub hex_numeral : ℕ → List ℕ → Option ℕ
 hex_numeral n s = cond (hex_digits s) (some (hex_from n s)) none
 
 -- the code's answer for a number that may not be there
-unfoldable pub told : Option ℕ → Number
-told none = Wrong
-told (some n) = Value n
+unfoldable pub told : Option ℕ → code.Option ℕ
+told none = code.None
+told (some n) = code.Some n

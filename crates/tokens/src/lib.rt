@@ -1,54 +1,39 @@
 // Tokens of a text: columns of a line, names, numbers.
 #![tactic(auto)]
 
-ghost use Rattle.std.specs.Prelude.{◌≡◌, true, false, cond, ◌&&◌, ◌||◌, ◌+◌, ◌-◌, ◌*◌, ◌≤◌, ◌<◌, min, [], eqb, length, drop, get_or};
+ghost use Rattle.std.specs.Prelude.{◌≡◌, true, false, ◌&&◌, ◌||◌, ◌+◌, ◌-◌, ◌*◌, ◌≤◌, ◌<◌, min, [], eqb, length, drop, get_or, ◌≢◌, IfNone, OnSome, IfSome};
 ghost use Rattle.text.specs.Split.{split, same};
-ghost use Rattle.plan.specs.Layout.{number, beyond, hex_digit, hex_digits, hex_from};
-ghost use Rattle.tokens.specs.Token.{until, Columns, place, named, rising, numeral, hex_value, hex_numeral, told};
-
-// What a text says as a number.
-#[derive(Clone, Copy)]
-pub enum Number {
-    Value(u32),
-    Wrong,
-}
+ghost use Rattle.plan.specs.Layout.{number, hex_digit, hex_digits, hex_from};
+ghost use Rattle.tokens.specs.Token.{until, Columns, place, numeral, hex_value, hex_numeral, told};
 
 // The place of the first byte b of s at or after from, or the length of s where there is none.
+#[tactic(auto, using(crate::proofs::Laws::until_end, crate::proofs::Laws::until_here, crate::proofs::Laws::until_next))]
 pub fn find(s: &[u8], from: usize, b: u8) -> usize
     requires { from ≤ length s.now }
     ensures { (result ≡ from + until b (drop from s.now)) × (result ≤ length s.now) }
 {
-    let mut i = from;
-    while i < s.len() {
+    for i in from..s.len() {
         if s[i] == b {
             return i;
         }
-        i += 1;
     }
-    i
-}
-
-fn either(a: bool, b: bool) -> bool
-    ensures { result ≡ (a || b) }
-{
-    if a { true } else { b }
+    s.len()
 }
 
 // Whether b is one of the 16 bytes of s from i on. All are looked at, since a loop without a way out takes them at a time.
+#[tactic(auto, using(crate::proofs::Laws::not_either, crate::proofs::Laws::until_far))]
 fn is_near(s: &[u8], i: usize, b: u8) -> bool
     requires { i + 16 ≤ length s.now }
     ensures { result ≡ false → until b (drop i s.now) ≡ 16 + until b (drop (i + 16) s.now) }
 {
     let mut found = false;
-    let mut k = 0;
-    while k < 16 {
-        found = either(found, s[i + k] == b);
-        k += 1;
+    for k in 0..16 {
+        found |= s[i + k] == b;
     }
     found
 }
 
-// What `find` finds, where it may be far.
+// What `find` finds, where it may be far. No `for`: what is left is looked at from where the last whole 16 end.
 pub fn find_far(s: &[u8], from: usize, b: u8) -> usize
     requires { from ≤ length s.now }
     ensures { (result ≡ from + until b (drop from s.now)) × (result ≤ length s.now) }
@@ -63,162 +48,120 @@ pub fn find_far(s: &[u8], from: usize, b: u8) -> usize
     find(s, i, b)
 }
 
-// Whether two texts are the same.
+// Whether two texts are the same, in the definition's word. Callers compare with a literal, which `==` would need as a slice.
+#[tactic(auto, using(crate::proofs::Laws::same_text))]
 pub fn equal(s: &[u8], t: &[u8]) -> bool
     ensures { result ≡ same s.now t.now }
 {
-    if s.len() != t.len() {
-        return false;
-    }
-    let mut i = 0;
-    while i < s.len() {
-        if s[i] != t[i] {
-            return false;
+    s == t
+}
+
+// A line that is cut at its spaces: where its first nine columns start, and where one more would, and how many there are, 10 for all
+// above nine.
+#[derive(Clone, Copy)]
+pub struct Line<'a> {
+    pub text: &'a [u8],
+    starts: [usize; 10],
+    pub count: usize,
+}
+
+impl<'a> Line<'a> {
+    // At each byte the place after it is stored, and kept only if the byte is a space: a loop that does not branch on the bytes,
+    // since no processor foresees where a short column ends.
+    pub fn cut(text: &'a [u8]) -> Line<'a>
+        ensures text { result.text.now ≡ text.now }
+        ensures count { result.count ≡ min 10 (length (split (eqb 32) text.now)) }
+        ensures starts { Columns text.now result.starts }
+    {
+        let mut starts = [0; 10];
+        let mut k = 0;
+        let mut i = 0;
+        while k < 9 {
+            let next = i + 1;
+            let last = k + 1;
+            starts[last] = next;
+            if i == text.len() {
+                return Line {
+                    text,
+                    starts,
+                    count: last,
+                };
+            }
+            k += (text[i] == b' ') as usize;
+            i = next;
         }
-        i += 1;
-    }
-    true
-}
-
-// 1 for a space.
-fn one_at_space(c: u8) -> usize
-    ensures { (result ≡ cond (eqb 32 c) 1 0) × (result ≤ 1) }
-{
-    if c == 32 { 1 } else { 0 }
-}
-
-// Where the first nine columns of a line start, and where one more would; the answer is how many there are, 10 for all above nine.
-// At each byte the place after it is stored, and kept only if the byte is a space: a loop that does not branch on the bytes, since
-// no processor foresees where a short column ends.
-pub fn columns(line: &[u8], starts: &mut [usize; 10]) -> usize
-    requires { length starts.old ≡ 10 }
-    ensures { (result ≡ min 10 (length (split (eqb 32) line.now))) × Columns line.now starts.new }
-{
-    starts[0] = 0;
-    let mut k = 0;
-    let mut i = 0;
-    while k < 9 {
-        let next = i + 1;
-        let last = k + 1;
-        starts[last] = next;
-        if i == line.len() {
-            return last;
+        Line {
+            text,
+            starts,
+            count: 10,
         }
-        k += one_at_space(line[i]);
-        i = next;
     }
-    10
-}
 
-// The column k of a line.
-pub fn column<'a, 'b>(line: &'a [u8], starts: &'b [usize; 10], k: usize) -> &'a [u8]
-    requires { Columns line.now starts.now × (k < 9) × (k < length (split (eqb 32) line.now)) }
-    ensures { result.now ≡ get_or (split (eqb 32) line.now) k [] }
-{
-    let from = starts[k];
-    let to = starts[k + 1] - 1;
-    &line[from..to]
-}
-
-// A place as an index.
-fn index_of(x: u32) -> usize
-    ensures { result ≡ x }
-{
-    x as usize
-}
-
-// The place of t among names that stand one after the other, each from its start up to the next one, or their count where it is
-// none of them. The starts are given, so that a name of another length costs no look at its bytes.
-pub fn find_name(names: &[u8], starts: &[u32], t: &[u8]) -> usize
-    requires { rising (length names.now) starts.now ≡ true }
-    ensures { result ≡ place (named names.now starts.now) t.now }
-{
-    let mut n = 0;
-    while n + 1 < starts.len() {
-        let from = index_of(starts[n]);
-        let to = index_of(starts[n + 1]);
-        if equal(t, &names[from..to]) {
-            return n;
-        }
-        n += 1;
+    // A line that is cut at its spaces, if it has n columns.
+    pub fn of(text: &'a [u8], n: usize) -> Option<Line<'a>>
+        requires { n < 10 }
+        ensures other { IfNone result (length (split (eqb 32) text.now) ≢ n) }
+        ensures count { OnSome result (length (split (eqb 32) text.now) ≡ n) }
+        ensures line { IfSome result (λ l. (l.text.now ≡ text.now) × Columns text.now l.starts) }
+    {
+        let line = Line::cut(text);
+        if line.count == n { Some(line) } else { None }
     }
-    n
+
+    // The column k.
+    #[tactic(auto, using(crate::proofs::Laws::column_at))]
+    pub fn column(&self, k: usize) -> &'a [u8]
+        requires { Columns self.now.text.now self.now.starts × (k < 9) × (k < length (split (eqb 32) self.now.text.now)) }
+        ensures { result.now ≡ get_or (split (eqb 32) self.now.text.now) k [] }
+    {
+        let from = self.starts[k];
+        let to = self.starts[k + 1] - 1;
+        &self.text[from..to]
+    }
 }
 
-// A byte as a wider number.
-fn wide(b: u8) -> u32
-    ensures { result ≡ b }
-{
-    b as u32
-}
-
-// n, or 65,536 where it is larger: no plan has so many rows, levels or values.
-fn capped(n: u32) -> u32
-    ensures { result ≡ min beyond n }
-{
-    if n < 65536 { n } else { 65536 }
-}
-
-// The number that a run of digits says.
-fn read_digits(t: &[u8]) -> Number
+// The number that a run of digits says, at most 65,536: no plan has so many rows, levels or values.
+#[tactic(auto, using(crate::proofs::Laws::numeral_end, crate::proofs::Laws::numeral_low, crate::proofs::Laws::numeral_high, crate::proofs::Laws::numeral_next), unfolding(crate::specs::Token::told))]
+fn read_digits(t: &[u8]) -> Option<u32>
     ensures { result ≡ told (numeral 0 t.now) }
 {
     let mut n: u32 = 0;
-    let mut i = 0;
-    while i < t.len() {
-        let c = t[i];
-        if c < 48 {
-            return Number::Wrong;
+    for c in t {
+        if *c < b'0' || b'9' < *c {
+            return None;
         }
-        if 57 < c {
-            return Number::Wrong;
-        }
-        n = capped(n * 10 + wide(c - 48));
-        i += 1;
+        n = (n * 10 + u32::from(*c - b'0')).min(65536);
     }
-    Number::Value(n)
+    Some(n)
 }
 
 // The number that a text says: digits, with no 0 before another.
 #[tactic(auto, using(crate::proofs::Laws::number_none, crate::proofs::Laws::number_one, crate::proofs::Laws::number_zero, crate::proofs::Laws::number_more), unfolding(crate::specs::Token::told))]
-pub fn read_number(t: &[u8]) -> Number
+pub fn read_number(t: &[u8]) -> Option<u32>
     ensures { result ≡ told (number t.now) }
 {
-    if t.len() == 0 {
-        return Number::Wrong;
+    match t {
+        [] => None,
+        [b'0', _, ..] => None,
+        _ => read_digits(t),
     }
-    if t.len() == 1 {
-        return read_digits(t);
-    }
-    if t[0] == 48 {
-        return Number::Wrong;
-    }
-    read_digits(t)
-}
-
-// Whether both hold, where neither is worth a way out.
-pub fn both(a: bool, b: bool) -> bool
-    ensures { result ≡ (a && b) }
-{
-    if a { b } else { false }
 }
 
 // Whether a byte is a lower-case hexadecimal digit.
 fn is_hex_digit(c: u8) -> bool
     ensures { result ≡ hex_digit c }
 {
-    either(both(48 <= c, c <= 57), both(97 <= c, c <= 102))
+    (b'0' <= c) & (c <= b'9') | (b'a' <= c) & (c <= b'f')
 }
 
 // Whether all bytes of a text are such digits. All are looked at, as in `is_near`.
+#[tactic(auto, using(crate::proofs::Laws::hex_digits_end, crate::proofs::Laws::hex_digits_next))]
 fn is_hex(t: &[u8]) -> bool
     ensures { result ≡ hex_digits t.now }
 {
     let mut hex = true;
-    let mut i = 0;
-    while i < t.len() {
-        hex = both(hex, is_hex_digit(t[i]));
-        i += 1;
+    for c in t {
+        hex &= is_hex_digit(*c);
     }
     hex
 }
@@ -229,31 +172,28 @@ fn hex_value(c: u8) -> u32
     requires { hex_digit c ≡ true }
     ensures { (result ≡ hex_value c) × (result < 16) }
 {
-    let n = wide(c);
+    let n = u32::from(c);
     n % 16 + n / 64 * 9
 }
 
 // The number that at most eight hexadecimal digits say.
+#[tactic(auto, using(crate::proofs::Laws::hex_digit_at, crate::proofs::Laws::hex_from_end))]
 fn hex_number(t: &[u8]) -> u32
     requires { (length t.now ≤ 8) × (hex_digits t.now ≡ true) }
     ensures { result ≡ hex_from 0 t.now }
 {
     let mut n: u32 = 0;
-    let mut i = 0;
-    while i < t.len() {
-        n = n * 16 + hex_value(t[i]);
-        i += 1;
+    for c in t {
+        n = n * 16 + hex_value(*c);
     }
     n
 }
 
 // The number that at most eight lower-case hexadecimal digits say.
-pub fn read_hex(t: &[u8]) -> Number
+#[tactic(auto, unfolding(crate::specs::Token::told, crate::specs::Token::hex_numeral))]
+pub fn read_hex(t: &[u8]) -> Option<u32>
     requires { length t.now ≤ 8 }
     ensures { result ≡ told (hex_numeral 0 t.now) }
 {
-    if is_hex(t) {
-        return Number::Value(hex_number(t));
-    }
-    Number::Wrong
+    if is_hex(t) { Some(hex_number(t)) } else { None }
 }

@@ -1,104 +1,113 @@
 -- Laws of the words that are written, and of the values. Assumes nothing.
-use Prim.Native.Nat.{ℕ, zero, suc, ◌+◌, ◌-◌, ◌≤◌, ◌<◌, min}
+use Prim.Native.Nat.{ℕ, zero, suc, ◌+◌, ◌≤◌, ◌<◌, min}
 use mathlib.Core.Path.{◌≡◌, refl, sym, ap, ◌∙◌}
 use mathlib.Core.Bool.{Bool, true, false, cond, not, ◌&&◌}
 use mathlib.Core.List.{List, [], ◌∷◌, ◌++◌, append-nil, append_assoc}
 use mathlib.Core.Option.{Option, some, none}
 use native.Mathlib.Omega.{arith}
 use native.Mathlib.Numerals.{add-one}
-use lib.Dec.{eqb}
+use lib.Dec.{eqb, ltb}
 use lib.ListN.{length, take, set, drop, length-append, length-set, length-drop}
 use lib.Seq.{take-suc-set, take_all, drop-drop}
 use borrow.Author.Tests.{eq-eqb, ne_eqb}
 use Rattle.text.specs.Split.{null}
 use Rattle.plan.specs.Layout.{◌⊛◌, digits, decimal_from, beyond, number, hex_digit, hex_digits, hex_from}
 use Rattle.tokens.specs.Token.{hex_numeral, told}
-use Rattle.tokens.specs.declared.Number.{Number}
-use Rattle.tokens.specs.declared.Number.TheVariants.{Value, Wrong}
-use Rattle.values.specs.declared.Next.{Next}
-use Rattle.values.specs.declared.Next.TheVariants.{At, No}
-use Rattle.values.specs.Words.{◌⧺◌, word, said, Holds, Wrote}
-use Rattle.values.specs.Value.{cell, wide_words, pad, integer, wide}
+use Rattle.std.specs.Prelude as code
+use Rattle.std.specs.Prelude.{Some, None}
+use Rattle.values.specs.Words.{◌⧺◌, word, Holds, Wrote}
+use Rattle.values.specs.Writes.{Writes}
+use Rattle.values.specs.declared.Words.{Words}
+use Rattle.values.specs.Cell.{cell_number}
+use Rattle.values.specs.declared.Cell.{Cell}
+use Rattle.values.specs.declared.Cell.TheVariants.{Unused, Number, Field, Bit, Function, Threshold}
+use Rattle.values.specs.Value.{cell, wide_words, pad, integer, wide, kind_word}
 
 -- words after words
 
-holds_then : (old mid new : List ℕ) (p q r : Next) (a b : Option (List ℕ)) → length mid ≡ length old
+holds_then : (old mid new : List ℕ) (p q r : code.Option ℕ) (a b : Option (List ℕ)) → length mid ≡ length old
     → Holds old p a q mid → Holds mid q b r new → Holds old p (a ⧺ b) r new
 unfolding Holds ◌⧺◌
-holds_then old mid new No q r a b s f g = from_no q f g where
-  from_no : (q : Next) → q ≡ No → Holds mid q b r new → r ≡ No
-  from_no No f g = g
-  from_no (At k) f g = let z : ◌≡◌ {A = ℕ} 0 1 = cc in absurd (omega arith)
-holds_then old mid new (At k) q r none b s f g = from_no q f g where
-  from_no : (q : Next) → q ≡ No → Holds mid q b r new → r ≡ No
-  from_no No f g = g
-  from_no (At k) f g = let z : ◌≡◌ {A = ℕ} 0 1 = cc in absurd (omega arith)
-holds_then old mid new (At k) No r (some ws) none s f g = g
-holds_then old mid new (At k) (At j) r (some ws) none s f g = g
-holds_then old mid new (At k) No r (some ws) (some vs) s f g =
+holds_then old mid new None q r a b s f g = from_no q f g where
+  from_no : (q : code.Option ℕ) → q ≡ None → Holds mid q b r new → r ≡ None
+  from_no None f g = g
+  from_no (Some k) f g = let z : ◌≡◌ {A = ℕ} 0 1 = cc in absurd (omega arith)
+holds_then old mid new (Some k) q r none b s f g = from_no q f g where
+  from_no : (q : code.Option ℕ) → q ≡ None → Holds mid q b r new → r ≡ None
+  from_no None f g = g
+  from_no (Some k) f g = let z : ◌≡◌ {A = ℕ} 0 1 = cc in absurd (omega arith)
+holds_then old mid new (Some k) None r (some ws) none s f g = g
+holds_then old mid new (Some k) (Some j) r (some ws) none s f g = g
+holds_then old mid new (Some k) None r (some ws) (some vs) s f g =
     λ room. let z : ◌≡◌ {A = ℕ} 0 1 = cc (f (omega (arith, simp length-append at room))).0 in absurd (omega arith)
-holds_then old mid new (At k) (At j) r (some ws) (some vs) s f g =
+holds_then old mid new (Some k) (Some j) r (some ws) (some vs) s f g =
     λ room.
     let n : k + (length ws + length vs) ≤ length old = simp length-append at room in
     let h = f (omega arith) in
     let e : j ≡ k + length ws = cc h.0 in
     let m = g (omega arith) in
     let d : k + length (ws ++ vs) ≡ j + length vs = rw length-append (omega arith) in
-    (m.0 ∙ ap At (sym d), rw d (m.1 ∙ rw (e, h.1, append_assoc)))
+    (m.0 ∙ ap Some (sym d), rw d (m.1 ∙ rw (e, h.1, append_assoc)))
 
-infixr 25 ◌⟫◌
-pub ◌⟫◌ : {old mid new : List ℕ} {p q r : Next} {a b : Option (List ℕ)} → Wrote old p a q mid → Wrote mid q b r new → Wrote old p (a ⧺ b) r new
-f ⟫ g = record { size = g.size ∙ f.size; holds = holds_then _ _ _ _ _ _ _ _ f.size f.holds g.holds }
+wrote_then : {old mid new : List ℕ} {p q r : code.Option ℕ} {a b : Option (List ℕ)} → Wrote old p a q mid → Wrote mid q b r new → Wrote old p (a ⧺ b) r new
+wrote_then f g = record { size = g.size ∙ f.size; holds = holds_then _ _ _ _ _ _ _ _ f.size f.holds g.holds }
 
--- no place, no words
-pub wrote_nowhere : (old : List ℕ) (at : Next) (w : Option (List ℕ)) → at ≡ No → Wrote old at w No old
+-- no words
+pub writes_none : {x : Words} {w : Option (List ℕ)} → w ≡ none → Writes w x None x
 unfolding Holds
-wrote_nowhere old No w e = record { size = refl; holds = refl }
-wrote_nowhere old (At k) w e = let z : ◌≡◌ {A = ℕ} 0 1 = cc in absurd (omega arith)
+writes_none {x} {w} e = rw e (record { buffer = refl; wrote = record { size = refl; holds = refl } })
 
-pub wrote_none : {old : List ℕ} (at : Next) → Wrote old at none No old
+pub writes_nothing : {x : Words} {u : Unit} → Writes (some []) x (Some u) x
 unfolding Holds
-wrote_none No = record { size = refl; holds = refl }
-wrote_none (At k) = record { size = refl; holds = refl }
+writes_nothing {x} = record { buffer = refl; wrote = record { size = refl; holds = λ room. let z : x.at + 0 ≡ x.at = omega arith in rw (z, append-nil) (refl, refl) } }
 
-pub wrote_nothing : {old : List ℕ} (at : Next) → Wrote old at (some []) at old
+pub writes_full : {x : Words} {n : ℕ} → length x.out.now ≤ x.at → Writes (some (n ∷ [])) x None x
 unfolding Holds
-wrote_nothing No = record { size = refl; holds = refl }
-wrote_nothing (At k) = record { size = refl; holds = λ room. let z : k + 0 ≡ k = omega arith in rw (z, append-nil) (refl, refl) }
+writes_full h = record { buffer = refl; wrote = record { size = refl; holds = λ room. absurd (omega arith) } }
 
-pub wrote_wrong : (old : List ℕ) (at : Next) (n : Number) → n ≡ Wrong → Wrote old at (said n) No old
-unfolding said
-wrote_wrong old at Wrong e = wrote_none at
-wrote_wrong old at (Value v) e = let z : ◌≡◌ {A = ℕ} 0 1 = cc in absurd (omega arith)
+pub writes_word : {x x' : Words} {n : ℕ} {u : Unit} → x.at < length x.out.now → x'.out.ghost_name ≡ x.out.ghost_name → x'.out.now ≡ set x.out.now x.at n
+    → x'.at ≡ x.at + 1 → Writes (some (n ∷ [])) x (Some u) x'
+unfolding Holds
+writes_word {x} {x'} {n} h g s e =
+    record { buffer = g; wrote = record { size = ap length s ∙ length-set x.out.now x.at n; holds = λ room. rw (e, s) (refl, rw (add-one, take-suc-set)) } }
 
-pub wrote_full : (old : List ℕ) (at : Next) (n : Number) (k v : ℕ) → at ≡ At k → n ≡ Value v → length old ≤ k → Wrote old at (said n) No old
-unfolding Holds said
-wrote_full old No n k v e f h = record { size = refl; holds = refl }
-wrote_full old (At j) Wrong k v e f h = record { size = refl; holds = refl }
-wrote_full old (At j) (Value u) k v e f h = record { size = refl; holds = λ room. let z : j ≡ k = cc in absurd (omega arith) }
+-- one writer after another, and one that stops before another
+pub writes_then : {a b : Option (List ℕ)} {x y z : Words} {u : Unit} {r : code.Option Unit} → Writes a x (Some u) y → Writes b y r z → Writes (a ⧺ b) x r z
+writes_then p q = record { buffer = q.buffer ∙ p.buffer; wrote = wrote_then p.wrote q.wrote }
 
-pub wrote_word : (old : List ℕ) (at : Next) (n : Number) (k v : ℕ) → at ≡ At k → n ≡ Value v → k < length old
-    → Wrote old at (said n) (At (k + 1)) (set old k v)
-unfolding Holds said
-wrote_word old No n k v e f h = let z : ◌≡◌ {A = ℕ} 0 1 = cc in absurd (omega arith)
-wrote_word old (At j) Wrong k v e f h = let z : ◌≡◌ {A = ℕ} 0 1 = cc in absurd (omega arith)
-wrote_word old (At j) (Value u) k v e f h =
-    let i : j ≡ k = cc in
-    let w : u ≡ v = cc in
-    record { size = length-set old k v; holds = λ room. rw (i, w) (refl, rw (add-one, take-suc-set)) }
+infixr 24 ◌⟫◌
+pub ◌⟫◌ : {a b : Option (List ℕ)} {x y z : Words} {u : Unit} {r : code.Option Unit} → Writes a x (Some u) y → Writes b y r z → Writes (a ⧺ b) x r z
+p ⟫ q = writes_then p q
+
+pub writes_stop : {a : Option (List ℕ)} (b : Option (List ℕ)) {x y : Words} {r : code.Option Unit} → r ≡ None → Writes a x None y → Writes (a ⧺ b) x r y
+unfolding Holds
+writes_stop b e p = rw e (record { buffer = p.buffer; wrote = wrote_then p.wrote (record { size = refl; holds = refl }) })
 
 -- a number that the code read
-pub told_word : {old new : List ℕ} {at r : Next} {n : Number} (o : Option ℕ) → n ≡ told o → Wrote old at (said n) r new → Wrote old at (word o) r new
-unfolding told said word
-told_word none e w = rw e at w
-told_word (some v) e w = rw e at w
+pub word_none : (o : Option ℕ) → None ≡ told o → word o ≡ none
+unfolding told word
+word_none none e = refl
+word_none (some v) e = let z : ◌≡◌ {A = ℕ} 0 1 = cc in absurd (omega arith)
 
-pub told_none : (o : Option ℕ) → told o ≡ Wrong → o ≡ none
+pub word_some : (o : Option ℕ) (v : ℕ) → Some v ≡ told o → word o ≡ some (v ∷ [])
+unfolding told word
+word_some none v e = let z : ◌≡◌ {A = ℕ} 0 1 = cc in absurd (omega arith)
+word_some (some u) v e = ap (λ (n : ℕ). some (n ∷ [])) (cc)
+
+-- the number of a kind that was read by its name
+pub kind_read : (n k m : ℕ) → Some m ≡ told (kind_word n k) → (k ≡ m) × (word (kind_word n m) ≡ some (m ∷ []))
+unfolding told kind_word word
+kind_read n k m e = by_test (ltb k n) refl e where
+  by_test : (t : Bool) → ltb k n ≡ t → Some m ≡ told (cond t (some k) none) → (k ≡ m) × (word (cond (ltb m n) (some m) none) ≡ some (m ∷ []))
+  by_test true q e = let z : k ≡ m = cc in (z, rw (← z, q))
+  by_test false q e = let z : ◌≡◌ {A = ℕ} 0 1 = cc in absurd (omega arith)
+
+pub told_none : (o : Option ℕ) → None ≡ told o → o ≡ none
 unfolding told
 told_none none e = refl
 told_none (some v) e = let z : ◌≡◌ {A = ℕ} 0 1 = cc in absurd (omega arith)
 
-pub told_some : (o : Option ℕ) (v : ℕ) → told o ≡ Value v → o ≡ some v
+pub told_some : (o : Option ℕ) (v : ℕ) → Some v ≡ told o → o ≡ some v
 unfolding told
 told_some none v e = let z : ◌≡◌ {A = ℕ} 0 1 = cc in absurd (omega arith)
 told_some (some u) v e = ap some (cc)
@@ -168,9 +177,19 @@ integer_words t h =
       by_tests false false false false w x y z = refl
 
 -- a value that is not an integer's
-pub wide_other : (sort : ℕ) (t : List ℕ) → (sort ≡ 6 → ⊥) → word (cell sort t) ⧺ (some (0 ∷ []) ⧺ (some (0 ∷ []) ⧺ some (0 ∷ []))) ≡ some wide_words ⊛ wide sort t
+wide_other : (sort : ℕ) (t : List ℕ) → (sort ≡ 6 → ⊥) → word (cell sort t) ⧺ (some (0 ∷ []) ⧺ (some (0 ∷ []) ⧺ some (0 ∷ []))) ≡ some wide_words ⊛ wide sort t
 unfolding wide word ◌⧺◌ ◌⊛◌
 wide_other sort t h = rw (ne_eqb _ _ h) (by_cell (cell sort t)) where
   by_cell : (o : Option ℕ) → word o ⧺ (some (0 ∷ []) ⧺ (some (0 ∷ []) ⧺ some (0 ∷ []))) ≡ some wide_words ⊛ (some pad ⊛ o)
   by_cell none = refl
   by_cell (some n) = refl
+
+pub narrow_words : (s : Cell) (t : List ℕ) → word (cell (cell_number s) t) ⧺ (some (0 ∷ []) ⧺ (some (0 ∷ []) ⧺ some (0 ∷ []))) ≡ some wide_words ⊛ wide (cell_number s) t
+narrow_words s t = wide_other (cell_number s) t (λ q. omega (arith, below s)) where
+  below : (s : Cell) → cell_number s < 6
+  below Unused = omega arith
+  below Number = omega arith
+  below Field = omega arith
+  below Bit = omega arith
+  below Function = omega arith
+  below Threshold = omega arith

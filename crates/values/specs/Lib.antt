@@ -1,2 +1,4 @@
 pub mod Words
 pub mod Value
+pub mod Cell
+pub mod Writes

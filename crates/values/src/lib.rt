@@ -1,162 +1,177 @@
 // The values of a row, from a text into words.
 #![tactic(auto)]
 
-ghost use Rattle.std.specs.Prelude.{◌≡◌, ◌+◌, ◌-◌, ◌≤◌, ◌<◌};
-ghost use Rattle.plan.specs.Layout.{◌⊛◌, number_to, function_kind, bit};
+ghost use Rattle.std.specs.Prelude.{◌≡◌, ◌+◌, ◌-◌, ◌≤◌, ◌<◌, [], ◌∷◌, length};
 ghost use Rattle.std.proofs.Math.Option.{some};
-ghost use Rattle.tokens.specs.Token.{told};
-ghost use Rattle.values.specs.Words.{word, said, Wrote};
-ghost use Rattle.values.specs.Value.{flag, function_word, threshold, cell, wide_words, integer, wide, kind_word};
+ghost use Rattle.plan.specs.Layout.{◌⊛◌, number_to, function_kind, bit};
+ghost use Rattle.tokens.specs.Token.{hex_numeral, told};
+ghost use Rattle.values.specs.Words.{word};
+ghost use Rattle.values.specs.Value.{flag, function_word, threshold, cell, wide_words, integer, wide};
+ghost use Rattle.values.specs.Cell.{cell_number, wide_number};
+ghost use Rattle.values.specs.Writes.{Writes};
 
-use tokens::Number;
-
-// Where the next word goes, or that the text so far says no words.
+// What a value of one word is.
 #[derive(Clone, Copy)]
-pub enum Next {
-    At(usize),
-    No,
+pub enum Cell {
+    Unused,
+    Number,
+    Field,
+    Bit,
+    Function,
+    Threshold,
 }
 
-// Writes a number as a word.
-pub fn put(n: Number, out: &mut [u32], at: Next) -> Next
-    ensures { Wrote out.old at (said n) result out.new }
-{
-    let Next::At(k) = at else {
-        return Next::No;
-    };
-    let Number::Value(v) = n else {
-        return Next::No;
-    };
-    if k < out.len() {
-        out[k] = v;
-        return Next::At(k + 1);
-    }
-    Next::No
+// What a value of four words is: an integer, or a value of one word with three zeros after it.
+#[derive(Clone, Copy)]
+pub enum WideCell {
+    Integer,
+    Narrow(Cell),
 }
 
-fn read_unused(t: &[u8]) -> Number
+fn read_unused(t: &[u8]) -> Option<u32>
     ensures { result ≡ told (cell 0 t.now) }
 {
     if tokens::equal(t, b"-") {
-        return Number::Value(0);
+        return Some(0);
     }
-    Number::Wrong
+    None
 }
 
-fn read_bit(t: &[u8]) -> Number
+fn read_bit(t: &[u8]) -> Option<u32>
     ensures { result ≡ told (some flag ⊛ bit t.now) }
 {
     if tokens::equal(t, b"0") {
-        return Number::Value(0);
+        return Some(0);
     }
     if tokens::equal(t, b"1") {
-        return Number::Value(1);
+        return Some(1);
     }
-    Number::Wrong
+    None
 }
 
 // A number that is not above the most.
-fn read_number_to(most: u32, t: &[u8]) -> Number
+fn read_number_to(most: u32, t: &[u8]) -> Option<u32>
     ensures { result ≡ told (number_to most t.now) }
 {
-    let r = tokens::read_number(t);
-    let Number::Value(v) = r else {
-        return Number::Wrong;
-    };
-    if v <= most {
-        return Number::Value(v);
-    }
-    Number::Wrong
+    let n = tokens::read_number(t)?;
+    if n <= most { Some(n) } else { None }
 }
 
 // A constructor or an extractor.
-fn read_function_kind(t: &[u8]) -> Number
+fn read_function_kind(t: &[u8]) -> Option<u32>
     ensures { result ≡ told (some function_word ⊛ function_kind t.now) }
 {
     if tokens::equal(t, b"-") {
-        return Number::Value(0);
+        return Some(0);
     }
     if tokens::equal(t, b"in") {
-        return Number::Value(1);
+        return Some(1);
     }
-    let r = tokens::read_number(t);
-    let Number::Value(v) = r else {
-        return Number::Wrong;
-    };
-    Number::Value(v + 2)
+    let n = tokens::read_number(t)?;
+    Some(n + 2)
 }
 
-fn read_threshold(t: &[u8]) -> Number
+fn read_threshold(t: &[u8]) -> Option<u32>
     ensures { result ≡ told (threshold t.now) }
 {
     if tokens::equal(t, b"-") {
-        return Number::Value(256);
+        return Some(256);
     }
     read_number_to(65535, t)
 }
 
-// A value of one word.
-fn read_cell(sort: u32, t: &[u8]) -> Number
-    ensures { result ≡ told (cell sort t.now) }
-{
-    if sort == 0 {
-        return read_unused(t);
+impl Cell {
+    #[tactic(auto, unfolding(crate::specs::Value::cell))]
+    fn read(self, t: &[u8]) -> Option<u32>
+        ensures { result ≡ told (cell (cell_number self) t.now) }
+    {
+        match self {
+            Cell::Unused => read_unused(t),
+            Cell::Number => tokens::read_number(t),
+            Cell::Field => read_number_to(255, t),
+            Cell::Bit => read_bit(t),
+            Cell::Function => read_function_kind(t),
+            Cell::Threshold => read_threshold(t),
+        }
     }
-    if sort == 1 {
-        return tokens::read_number(t);
-    }
-    if sort == 2 {
-        return read_number_to(255, t);
-    }
-    if sort == 3 {
-        return read_bit(t);
-    }
-    if sort == 4 {
-        return read_function_kind(t);
-    }
-    read_threshold(t)
 }
 
-// Writes a value of one word.
-pub fn put_cell(sort: u32, t: &[u8], out: &mut [u32], at: Next) -> Next
-    ensures { Wrote out.old at (word (cell sort t.now)) result out.new }
-{
-    put(read_cell(sort, t), out, at)
+// Words on their way into a lent buffer, and the place of the next one. No `Vec`: the caller's memory is all that there is.
+#[derive(Drop)]
+pub struct Words<'a> {
+    pub out: &'a mut [u32],
+    pub at: usize,
 }
 
-// Writes an integer's value: four words, the low one first.
-fn put_integer(t: &[u8], out: &mut [u32], at: Next) -> Next
-    ensures { Wrote out.old at (some wide_words ⊛ integer t.now) result out.new }
-{
-    if t.len() != 32 {
-        return Next::No;
+impl<'a> Words<'a> {
+    // Words from the start of a buffer.
+    pub fn new(out: &'a mut [u32]) -> Words<'a>
+        ensures buffer { result.out.ghost_name ≡ out.entry.ghost_name }
+        ensures words { result.out.now ≡ out.old }
+        ensures start { result.at ≡ 0 }
+    {
+        Words { out, at: 0 }
     }
-    let p0 = put(tokens::read_hex(&t[24..32]), out, at);
-    let p1 = put(tokens::read_hex(&t[16..24]), out, p0);
-    let p2 = put(tokens::read_hex(&t[8..16]), out, p1);
-    put(tokens::read_hex(&t[0..8]), out, p2)
-}
 
-// Writes a value of four words.
-pub fn put_wide(sort: u32, t: &[u8], out: &mut [u32], at: Next) -> Next
-    ensures { Wrote out.old at (some wide_words ⊛ wide sort t.now) result out.new }
-{
-    if sort == 6 {
-        return put_integer(t, out, at);
+    // Writes a word.
+    #[tactic(auto, using(crate::proofs::Laws::writes_word, crate::proofs::Laws::writes_full))]
+    pub fn push(&mut self, n: u32) -> Option<()>
+        ensures { Writes (some (n ∷ [])) self.old result self.new }
+    {
+        if self.at < self.out.len() {
+            self.out[self.at] = n;
+            self.at += 1;
+            return Some(());
+        }
+        None
     }
-    let p0 = put_cell(sort, t, out, at);
-    let p1 = put(Number::Value(0), out, p0);
-    let p2 = put(Number::Value(0), out, p1);
-    put(Number::Value(0), out, p2)
-}
 
-// Writes the number of a kind.
-pub fn put_kind(count: usize, k: usize, out: &mut [u32], at: Next) -> Next
-    requires { count ≤ 65536 }
-    ensures { Wrote out.old at (word (kind_word count k)) result out.new }
-{
-    if k < count {
-        return put(Number::Value(k as u32), out, at);
+    // Writes a value of one word.
+    #[tactic(auto, using(crate::proofs::Laws::writes_none, crate::proofs::Laws::word_none, crate::proofs::Laws::word_some))]
+    pub fn push_cell(&mut self, sort: Cell, t: &[u8]) -> Option<()>
+        ensures { Writes (word (cell (cell_number sort) t.now)) self.old result self.new }
+    {
+        let n = sort.read(t)?;
+        self.push(n)
     }
-    Next::No
+
+    // Writes eight digits of an integer.
+    #[tactic(auto, using(crate::proofs::Laws::writes_none, crate::proofs::Laws::word_none, crate::proofs::Laws::word_some))]
+    fn push_hex(&mut self, t: &[u8]) -> Option<()>
+        requires { length t.now ≤ 8 }
+        ensures { Writes (word (hex_numeral 0 t.now)) self.old result self.new }
+    {
+        let n = tokens::read_hex(t)?;
+        self.push(n)
+    }
+
+    // Writes an integer's value: four words, the low one first.
+    #[tactic(auto, using(crate::proofs::Laws::writes_then, crate::proofs::Laws::writes_stop, crate::proofs::Laws::writes_none))]
+    fn push_integer(&mut self, t: &[u8]) -> Option<()>
+        ensures { Writes (some wide_words ⊛ integer t.now) self.old result self.new }
+    {
+        if t.len() != 32 {
+            return None;
+        }
+        self.push_hex(&t[24..32])?;
+        self.push_hex(&t[16..24])?;
+        self.push_hex(&t[8..16])?;
+        self.push_hex(&t[0..8])
+    }
+
+    // Writes a value of four words.
+    #[tactic(auto, using(crate::proofs::Laws::writes_then, crate::proofs::Laws::writes_stop))]
+    pub fn push_wide(&mut self, sort: WideCell, t: &[u8]) -> Option<()>
+        ensures { Writes (some wide_words ⊛ wide (wide_number sort) t.now) self.old result self.new }
+    {
+        match sort {
+            WideCell::Integer => self.push_integer(t),
+            WideCell::Narrow(cell) => {
+                self.push_cell(cell, t)?;
+                self.push(0)?;
+                self.push(0)?;
+                self.push(0)
+            }
+        }
+    }
 }

@@ -4,6 +4,7 @@
 
 pub mod binding;
 pub mod block;
+pub mod buffers;
 pub mod environment;
 
 ghost use Rattle.std.specs.Prelude.{◌≡◌, ℕ, ◌+◌, ◌-◌, ◌<◌, min, List, [], length, get_or, drop};

@@ -1,71 +1,65 @@
 // The structure of a block's rows: how many arms a match has, which rows stand below a row, and how much they weigh.
 #![tactic(auto)]
 
-ghost use Rattle.std.specs.Prelude.{◌≡◌, map, ◌+◌, ◌-◌, ◌<◌, length};
-ghost use Rattle.plan.specs.Row.{level};
+ghost use Rattle.std.specs.Prelude.{◌≡◌, ℕ, Bool, ◌+◌, ◌-◌, ◌<◌, length, count_by};
+ghost use Rattle.plan.specs.Row.{Row, level};
 ghost use Rattle.codegen.specs.Block.{arm_count, block_weight};
 ghost use Rattle.splitting.specs.Demand3.{rows_below};
 ghost use Rattle.rows.specs.View.{block_of};
-ghost use Rattle.layout.specs.View.{cut, cuts};
+ghost use Rattle.view.specs.Buffers.{words_of};
+ghost use Rattle.weights.specs.Between.{rows_between};
 
-// How many arms a match of a level has, of the rows from row `from` up to row `end`.
-pub fn arm_count(words: &[u32], rows: &[u32], level: usize, from: usize, end: usize) -> usize
-    ensures { result ≡ arm_count level (map block_of (cuts words.now rows.now from (end - from))) }
+use view::buffers::Plan;
+
+// How many rows are counted of those below a row of a level, among the rows from row `from` up to row `end`.
+fn count_below<F: Fn(usize) -> bool>(
+    plan: &Plan<'_>,
+    level: usize,
+    from: usize,
+    end: usize,
+    is_counted: F,
+) -> usize
+    requires { F.IsAlwaysCallable is_counted }
+    ensures { (P : Row → Bool) → ((r : ℕ) (b : Bool) → F.post is_counted r b → b ≡ P (block_of (words_of plan.now r))) → result ≡ count_by P (rows_below level (rows_between plan.now from end)) }
 {
     let mut n = 0;
-    let mut r = from;
-    while r < end {
-        let l = view::word(words, rows, r, 0);
-        if l <= level {
+    for r in from..end {
+        if plan.word(r, 0) <= level {
             return n;
         }
-        let next = r + 1;
-        if l - 1 != level {
-            r = next;
-            continue;
+        if is_counted(r) {
+            n += 1;
         }
-        n += 1;
-        r = next;
     }
     n
+}
+
+// How many arms a match of a level has, of the rows from row `from` up to row `end`: the rows below it that are one level deeper.
+pub fn arm_count(plan: &Plan<'_>, level: usize, from: usize, end: usize) -> usize
+    ensures { result ≡ arm_count level (rows_between plan.now from end) }
+{
+    count_below(
+        plan,
+        level,
+        from,
+        end,
+        |r| plan.word(r, 0).saturating_sub(level) == 1,
+    )
 }
 
 // How much the rows below a row of a level weigh, of the rows from row `from` up to row `end`: the steps among them.
-pub fn block_weight(words: &[u32], rows: &[u32], level: usize, from: usize, end: usize) -> usize
-    ensures { result ≡ block_weight level (map block_of (cuts words.now rows.now from (end - from))) }
+pub fn block_weight(plan: &Plan<'_>, level: usize, from: usize, end: usize) -> usize
+    ensures { result ≡ block_weight level (rows_between plan.now from end) }
 {
-    let mut n = 0;
-    let mut r = from;
-    while r < end {
-        if view::word(words, rows, r, 0) <= level {
-            return n;
-        }
-        let next = r + 1;
-        if !view::block::is_step(words, rows, r) {
-            r = next;
-            continue;
-        }
-        n += 1;
-        r = next;
-    }
-    n
+    count_below(plan, level, from, end, |r| plan.is_step(r))
 }
 
 // How many rows stand below row r, of the rows up to row `end`: those after it, up to the next row of its level or a lower one.
-pub fn rows_below(words: &[u32], rows: &[u32], r: usize, end: usize) -> usize
-    ensures { result ≡ length (rows_below (level (block_of (cut words.now rows.now r))) (map block_of (cuts words.now rows.now (r + 1) (end - (r + 1))))) }
+pub fn rows_below(plan: &Plan<'_>, r: usize, end: usize) -> usize
+    ensures { result ≡ length (rows_below (level (block_of (words_of plan.now r))) (rows_between plan.now (r + 1) end)) }
 {
     if end <= r {
         return 0;
     }
-    let above = view::word(words, rows, r, 0);
-    let first = r + 1;
-    let mut i = first;
-    while i < end {
-        if view::word(words, rows, i, 0) <= above {
-            return i - first;
-        }
-        i += 1;
-    }
-    i - first
+    count_below(plan, plan.word(r, 0), r + 1, end, |_| true)
 }

@@ -1,18 +1,14 @@
-use Rattle.ctx_trait.proofs.Lists.{joined_last}
-use Rattle.ctx_trait.proofs.Shown.{shows_as, ◌⟫ₛ◌}
-use Rattle.emits.specs.Pieces.{shows_none, shows_fix}
+use Rattle.std.proofs.Common.{rules, sym}
+use denote.Enum.Bare.{same_true}
+use Rattle.sema.specs.contracts.signature.ReturnKind.{the_type}
+use Rattle.sema.specs.declared.signature.ReturnKind.TheVariants.{Iterator}
 use Rattle.codegen.specs.ReturnKind.{by_return_kind}
-use Rattle.ctx_trait.specs.Parts.{joined}
+use Rattle.emits.specs.Sinks.{shows_as, shows_fix, shows_none, ◌⟫ₛ◌}
+use Rattle.ctx_trait.proofs.Lists.{joined_last}
 use Rattle.ctx_trait.proofs.last_param.Goals as goal
 
-pub returns-in-Iterator : goal.returns-in-Iterator
+pub returns-then-eq : goal.returns-then-eq
 unfolding by_return_kind
-returns-in-Iterator c = λ env index h. rw c.in-Iterator.is (shows_as (joined_last _ _) (c.put_separator-at.ensures env ⟫ₛ shows_fix c.put_bytes-at.ensures (c.put_func_name-at.ensures env index 0 h ⟫ₛ shows_fix c.put_bytes.ensures shows_none)))
-
-pub returns-in-Option : goal.returns-in-Option
-unfolding by_return_kind joined
-returns-in-Option c = λ env index h. rw c.in-Option.is shows_none
-
-pub returns-in-Plain : goal.returns-in-Plain
-unfolding by_return_kind joined
-returns-in-Plain c = λ env index h. rw c.in-Plain.is shows_none
+returns-then-eq c =
+    rw (same_true the_type (search rules) c.args.sig.ret_kind Iterator (sym c.if-eq.ensures))
+    (shows_as (joined_last _ _) (c.put_separator.ensures _ ⟫ₛ shows_fix c.put_bytes.ensures (c.put_func_name.ensures 0 ⟫ₛ shows_fix c.put_bytes-then-eq.ensures shows_none)))

@@ -1,19 +1,20 @@
-use Rattle.std.specs.Prelude.{◌-◌}
-use mathlib.Core.Path.{refl, ◌∙◌}
 use native.Mathlib.Omega.{arith}
-use Rattle.ctx_trait.proofs.Shown.{left_all, left_more, left_end}
+use Rattle.view.specs.Buffers.{env_of}
 use Rattle.sema.specs.Signature.{sig_told}
+use Rattle.emits.specs.Sinks.{left_all, left_more, left_end, ◌⟫ₛ◌}
 use Rattle.ctx_trait.proofs.Lists.{join_is, names_next, names_end}
 use Rattle.ctx_trait.proofs.ret_types.Goals as goal
 
 pub loop-i-init : goal.loop-i-init
-loop-i-init c = (λ env index h q. left_all (join_is _), refl)
+loop-i-init c = left_all (join_is _)
 
 pub loop-i-preserved : goal.loop-i-preserved
-loop-i-preserved c = (λ env index h q. left_more (c.loop-i.invariant.0 env index h q) (names_next env (sig_told env c.args.sig).ret_tys c.loop-i.i (omega arith)) (c.ret_type-at.ensures env index h), c.ret_type-at.auto.out ∙ c.loop-i.invariant.1)
-
-pub shape_of-out : goal.shape_of-out
-shape_of-out c = c.loop-i.invariant.1
+loop-i-preserved c =
+    let env = env_of c.args.plan.now in
+    left_more c.loop-i.invariant (names_next env (sig_told env c.args.sig).ret_tys c.loop-i.i (omega arith))
+    (c.put_separator.ensures env ⟫ₛ rw (← c.ret_ty.ensures) (c.type_name.ensures 0))
 
 pub returns : goal.returns
-returns c = λ env index h q. left_end (c.loop-i.invariant.0 env index h q) (names_end env (sig_told env c.args.sig).ret_tys c.loop-i.i (omega arith))
+returns c =
+    let env = env_of c.args.plan.now in
+    left_end c.loop-i.invariant (names_end env (sig_told env c.args.sig).ret_tys c.loop-i.i (omega arith))

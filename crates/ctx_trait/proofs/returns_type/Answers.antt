@@ -1,18 +1,14 @@
+use Rattle.std.proofs.Common.{rules, sym}
+use denote.Enum.Bare.{same_true}
+use Rattle.sema.specs.contracts.signature.ReturnKind.{the_type}
+use Rattle.sema.specs.declared.signature.ReturnKind.TheVariants.{Iterator}
 use Rattle.codegen.specs.ReturnKind.{by_return_kind}
-use Rattle.ctx_trait.proofs.Shown.{shows_text, ◌⟫ₛ◌}
-use Rattle.emits.specs.Pieces.{shows_none, shows_fix}
-use Rattle.codegen.specs.Piece.{render, bytes, indent}
-use Rattle.text.specs.Sink.{spaces}
+use Rattle.emits.specs.Sinks.{shows_fix, shows_none, ◌⟫ₛ◌}
+use Rattle.ctx_trait.specs.Shown.{shows_line}
 use Rattle.ctx_trait.proofs.returns_type.Goals as goal
 
-pub returns-in-Iterator : goal.returns-in-Iterator
-unfolding by_return_kind render bytes indent spaces
-returns-in-Iterator c = λ env index h. rw c.in-Iterator.is (shows_fix c.put_bytes-at.ensures (c.put_func_name-at.ensures env index 0 h ⟫ₛ shows_fix c.put_bytes-at-in-Iterator.ensures (c.ret_tuple-at.ensures env index h ⟫ₛ shows_text c.put_bytes.ensures)))
-
-pub returns-in-Option : goal.returns-in-Option
+pub returns-then-eq : goal.returns-then-eq
 unfolding by_return_kind
-returns-in-Option c = λ env index h. rw c.in-Option.is shows_none
-
-pub returns-in-Plain : goal.returns-in-Plain
-unfolding by_return_kind
-returns-in-Plain c = λ env index h. rw c.in-Plain.is shows_none
+returns-then-eq c =
+    rw (same_true the_type (search rules) c.args.sig.ret_kind Iterator (sym c.if-eq.ensures))
+    (shows_fix c.put_bytes.ensures (c.put_func_name.ensures 0 ⟫ₛ shows_fix c.put_bytes-then-eq.ensures (c.ret_tuple.ensures ⟫ₛ shows_line c.put_bytes-then-eq-2.ensures shows_none)))

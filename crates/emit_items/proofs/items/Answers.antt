@@ -1,9 +1,14 @@
+use Rattle.view.proofs.Plans.{environment_is}
+use Rattle.view.specs.Buffers.{plan_of}
 use mathlib.Core.Path.{sym, ◌∙◌}
-use Rattle.ctx_trait.proofs.Shown.{◌⟫ₛ◌}
-use Rattle.emit_items.proofs.Lists.{nopragmas_is}
 use Rattle.codegen.specs.Items.{items}
+use Rattle.emits.specs.Sinks.{◌⟫ₛ◌}
+use Rattle.emit_items.proofs.Lists.{nopragmas_is}
 use Rattle.emit_items.proofs.items.Goals as goal
 
 pub returns : goal.returns
 unfolding items
-returns c = λ p q h. c.generate_header-at.ensures p.env c.args.index.now p.options h (nopragmas_is c.args.plan.now c.args.words.now c.args.rows.now c.args.tables.now q (c.row_at.ensures c.args.words.now) ∙ sym c.flag-nopragmas.ensures) ⟫ₛ c.generate_ctx_trait-at.ensures p.env c.args.index.now h ⟫ₛ c.generate_internal_types.ensures p.env h
+returns c = λ v.
+    let p = c.args.plan.now in
+    rw (environment_is p.words.now p.rows.now p.tables.now p.bytes.now)
+    (c.generate_header.ensures (plan_of p).options (nopragmas_is p c.row_at.ensures ∙ sym c.flag-nopragmas.ensures) ⟫ₛ c.generate_ctx_trait.ensures ⟫ₛ c.generate_internal_types.ensures v)

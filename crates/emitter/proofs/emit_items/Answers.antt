@@ -2,8 +2,5 @@ use lib.ListN.{length}
 use Rattle.emitter.specs.EntryLaws.{items_is}
 use Rattle.emitter.proofs.emit_items.Goals as goal
 
-pub returns-then-plan-le2048 : goal.returns-then-plan-le2048
-returns-then-plan-le2048 c = rw (items_is c.args.plan.now (length c.args.out.now)) at c.answer_short.ensures
-
 pub returns : goal.returns
-returns c = rw (items_is c.args.plan.now (length c.args.out.now)) at c.answer_long.ensures
+returns c = rw (items_is c.args.plan.now (length c.args.out.now)) at c.answer_form.ensures

@@ -1,14 +1,16 @@
-use mathlib.Core.Path.{◌∙◌}
 use native.Mathlib.Omega.{arith}
-use Rattle.values.proofs.Laws.{◌⟫◌}
-use Rattle.lists.proofs.Laws.{items_last, items_more}
-use Prim.Native.Nat.{◌-◌, ◌<◌}
+use Prim.Native.Nat.{◌<◌}
 use lib.ListN.{length}
+use Rattle.values.proofs.Laws.{writes_then}
+use Rattle.lists.proofs.Laws.{items_last, items_more, items_stop}
 use Rattle.lists.proofs.put_items.Goals as goal
 
-pub returns-then-e-t : goal.returns-then-e-t
-returns-then-e-t c = c.loop-p.invariant.2 _ _ (rw (items_last _ _ _ _ c.find-e.ensures.0 c.if-e-t.true) c.put_item-p.ensures)
+pub loop-i-preserved : goal.loop-i-preserved
+loop-i-preserved c = let g : c.find-e.result < length c.args.t.now = omega arith in
+    (omega arith, λ r after w. c.loop-i.invariant.1 r after (rw (items_more _ _ _ _ c.find-e.ensures.0 g) (writes_then c.in_ok-put_item.ensures w)))
 
-pub loop-p-preserved : goal.loop-p-preserved
-loop-p-preserved c = let g : c.find-e.result < length c.args.t.now = omega arith in
-    (omega arith, c.put_item-p.ensures.size ∙ c.loop-p.invariant.1, λ r new w. c.loop-p.invariant.2 r new (rw (items_more _ _ _ _ c.find-e.ensures.0 g) (c.put_item-p.ensures ⟫ w)))
+pub returns-in_err-put_item : goal.returns-in_err-put_item
+returns-in_err-put_item c = c.loop-i.invariant.1 _ _ (items_stop _ _ _ _ c.find-e.ensures.0 c.find-e.ensures.1 c.from_residual.ensures c.in_err-put_item.ensures)
+
+pub returns-then-e-t : goal.returns-then-e-t
+returns-then-e-t c = c.loop-i.invariant.1 _ _ (rw (items_last _ _ _ _ c.find-e.ensures.0 c.if-e-t.true) c.in_ok-put_item.ensures)

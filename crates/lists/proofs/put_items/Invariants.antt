@@ -1,16 +1,17 @@
-use mathlib.Core.Path.{◌≡◌}
-use Rattle.values.specs.Words.{Wrote}
-use Rattle.lists.specs.Items.{items}
-use Prim.Native.Nat.{ℕ, ◌-◌, ◌≤◌}
-use mathlib.Core.List.{List}
+use Prim.Native.Nat.{◌-◌, ◌≤◌}
 use lib.Dec.{eqb}
 use lib.ListN.{length, drop}
+use Rattle.std.specs.Prelude.{Option}
 use Rattle.text.specs.Split.{split}
-use Rattle.values.specs.declared.Next.{Next}
+use Rattle.values.specs.declared.Words.{Words}
+use Rattle.values.specs.Writes.{Writes}
+use Rattle.lists.specs.Items.{items}
+use Rattle.lists.specs.Lists.{list_number}
 use Rattle.lists.proofs.put_items.Given as goal
 
-abbrev pub invariant-loop-p : goal.invariant-loop-p
-invariant-loop-p l = (l.i ≤ length l.t) × (length l.out ≡ length l.initial.out) × ((r : Next) (new : List ℕ) → Wrote l.out l.p (items l.sort (split (eqb 44) (drop l.i l.t))) r new → Wrote l.initial.out l.initial.p (items l.sort (split (eqb 44) l.t)) r new)
+abbrev pub invariant-loop-i : goal.invariant-loop-i
+invariant-loop-i l = (l.i ≤ length l.t) × ((r : Option Unit) (after : Words) → Writes (items (list_number l.list) (split (eqb 44) (drop l.i l.t))) l.words r after
+    → Writes (items (list_number l.list) (split (eqb 44) l.t)) l.initial.words r after)
 
-abbrev pub decreases-loop-p : goal.decreases-loop-p
-decreases-loop-p l = length l.t - l.i
+abbrev pub decreases-loop-i : goal.decreases-loop-i
+decreases-loop-i l = length l.t - l.i

@@ -1,12 +1,17 @@
 use mathlib.Core.Path.{sym, ◌∙◌}
-use Rattle.values.proofs.Laws.{wrote_nothing}
+use Rattle.values.proofs.Laws.{writes_nothing, writes_none}
 use Rattle.lists.specs.Items.{list_words}
+use Rattle.lists.proofs.Laws.{items_none}
 use Rattle.lists.proofs.put_list.Goals as goal
 
 pub returns-then-equal : goal.returns-then-equal
 unfolding list_words
-returns-then-equal c = rw (sym c.equal.ensures ∙ c.if-equal.true) (wrote_nothing _)
+returns-then-equal c = rw (sym c.equal.ensures ∙ c.if-equal.true) writes_nothing
+
+pub returns-in_err-list : goal.returns-in_err-list
+unfolding list_words
+returns-in_err-list c = rw (sym c.equal.ensures ∙ c.if-equal.false, c.in_err-list.was, c.from_residual.ensures) (writes_none (items_none _))
 
 pub returns : goal.returns
 unfolding list_words
-returns c = rw (sym c.equal.ensures ∙ c.if-equal.false) c.put_items.ensures
+returns c = rw (sym c.equal.ensures ∙ c.if-equal.false, c.in_ok-list.was) c.put_items.ensures

@@ -1,10 +1,9 @@
-use mathlib.Core.Path.{◌∙◌}
-use native.Mathlib.Omega.{arith}
+use Rattle.std.proofs.Common.{arith, ◌∙◌}
 use Rattle.programs.proofs.Laws.{none_refused, one_refused}
 use Rattle.programs.proofs.accept.Goals as goal
 
-pub returns-then-number-eq0 : goal.returns-then-number-eq0
-returns-then-number-eq0 c = c.put_accepted.ensures (omega arith) ∙ none_refused c.refused-number.ensures c.if-number-eq0.true
+pub returns-in-None : goal.returns-in-None
+returns-in-None c = c.put_accepted.ensures (omega arith) ∙ none_refused (rw c.in-None.is at c.refused.ensures)
 
-pub returns : goal.returns
-returns c = c.put_refusal.ensures (omega arith) ∙ one_refused c.refused-number.ensures c.if-number-eq0.false
+pub returns-in-Some : goal.returns-in-Some
+returns-in-Some c = c.put_refusal.ensures (omega arith) ∙ rw c.number.ensures (one_refused c.in-Some.refusal (rw c.in-Some.is at c.refused.ensures))

@@ -1,13 +1,49 @@
-use mathlib.Core.Path.{refl}
-use Rattle.refusals.proofs.Laws.{held, says_early, says_late, keeps_late, indexes_none, indexes_held}
-use native.Mathlib.Omega.{arith}
+use Rattle.std.proofs.Common.{◌≡◌, rules, refl, sym, ◌∙◌, arith}
+use Rattle.std.specs.Prelude.{Ok, Err}
+use Rattle.refusals.specs.Answered.{Indexes}
+use Rattle.refusals.proofs.Laws.{says_early, held, says_late, says_held, late}
 use Rattle.refusals.proofs.read_into.Goals as goal
 
-pub judge_first-number-requires : goal.judge_first-number-requires
-judge_first-number-requires c = held c.args.plan.now c.read_into-r.new.words c.read_into-r.new.rows c.read_into-r.new.tables _ _ _ (rw c.in-Held.is at c.read_into-r.ensures.0)
+pub returns-in_err-held-clause-says : goal.returns-in_err-held-clause-says
+returns-in_err-held-clause-says c = let q : c.from_residual.result ≡ Err c.in_err-held.field-0.0 = search rules in
+    rw q (says_early _ _ _ _ _ c.in_err-held.ensures.says)
 
-pub returns-in-Refused : goal.returns-in-Refused
-returns-in-Refused c = (says_early c.args.plan.now c.read_into-r.new.words c.read_into-r.new.rows c.read_into-r.new.tables _ (rw c.in-Refused.is at c.read_into-r.ensures.0), indexes_none _ _ _ _ _, rw c.in-Refused.is at c.read_into-r.ensures.1, rw c.in-Refused.is at c.read_into-r.ensures.2, rw c.in-Refused.is at c.read_into-r.ensures.3, λ h. refl)
+pub returns-in_err-held-clause-indexes : goal.returns-in_err-held-clause-indexes
+unfolding Indexes
+returns-in_err-held-clause-indexes c = let q : c.from_residual.result ≡ Err c.in_err-held.field-0.0 = search rules in rw q tt
 
-pub returns-in-Held : goal.returns-in-Held
-returns-in-Held c = rw c.told.ensures (says_late c.args.plan.now c.read_into-r.new.words c.read_into-r.new.rows c.read_into-r.new.tables _ _ _ (rw c.in-Held.is at c.read_into-r.ensures.0) (c.judge_first-number.ensures.0 c.args.plan.now), indexes_held _ _ _ _ _ _ _ c.judge_first-number.ensures.1, keeps_late 2 _ _ _ _ _ _ (omega arith) (c.judge_first-number.ensures.0 c.args.plan.now), keeps_late 2 _ _ _ _ _ _ (omega arith) (c.judge_first-number.ensures.0 c.args.plan.now), keeps_late 2 _ _ _ _ _ _ (omega arith) (c.judge_first-number.ensures.0 c.args.plan.now), keeps_late 3 _ _ _ _ _ _ (omega arith) (c.judge_first-number.ensures.0 c.args.plan.now))
+pub plan_held-laid-requires : goal.plan_held-laid-requires
+plan_held-laid-requires c = held _ _ _ _ _ c.in_ok-held.ensures.says
+
+pub returns-in_err-judge-clause-says : goal.returns-in_err-judge-clause-says
+returns-in_err-judge-clause-says c =
+    let q : c.from_residual-in_err-judge.result ≡ Err c.in_err-judge.field-0.0 = search rules in
+    let v = c.plan_held-laid.ensures in
+    rw q (says_late _ _ _ _ _ c.in_ok-held.ensures.says _ (rw (v.0, v.1, v.2, v.3) at c.in_err-judge.ensures.number) _ refl)
+
+pub returns-in_err-judge-clause-indexes : goal.returns-in_err-judge-clause-indexes
+unfolding Indexes
+returns-in_err-judge-clause-indexes c = let q : c.from_residual-in_err-judge.result ≡ Err c.in_err-judge.field-0.0 = search rules in rw q tt
+
+pub returns-in_err-judge-clause-keeps : goal.returns-in_err-judge-clause-keeps
+returns-in_err-judge-clause-keeps c =
+    let q : c.from_residual-in_err-judge.result ≡ Err c.in_err-judge.field-0.0 = search rules in
+    let v = c.plan_held-laid.ensures in
+    let l = late _ _ _ _ _ c.in_ok-held.ensures.says _ (rw (v.0, v.1, v.2, v.3) at c.in_err-judge.ensures.number) _ refl in
+    rw q (λ h. absurd (omega (arith, l)), λ h. absurd (omega (arith, l)), λ h. absurd (omega (arith, l)))
+
+pub returns-in_err-judge-clause-keeps_index : goal.returns-in_err-judge-clause-keeps_index
+returns-in_err-judge-clause-keeps_index c =
+    let q : c.from_residual-in_err-judge.result ≡ Err c.in_err-judge.field-0.0 = search rules in
+    let v = c.plan_held-laid.ensures in
+    let l = late _ _ _ _ _ c.in_ok-held.ensures.says _ (rw (v.0, v.1, v.2, v.3) at c.in_err-judge.ensures.number) _ refl in
+    rw q (λ h. absurd (omega (arith, l)))
+
+pub returns-clause-says : goal.returns-clause-says
+returns-clause-says c =
+    let v = c.plan_held-laid.ensures in
+    says_held _ _ _ _ _ c.in_ok-held.ensures.says _ (rw (v.0, v.1, v.2, v.3) at c.in_ok-judge.ensures.number) refl
+
+pub returns-clause-indexes : goal.returns-clause-indexes
+unfolding Indexes
+returns-clause-indexes c = let v = c.plan_held-laid.ensures in rw (v.1, v.2, v.3) at c.in_ok-judge.ensures.indexed

@@ -1,29 +1,24 @@
-use mathlib.Core.Path.{◌∙◌}
-use native.Mathlib.Omega.{arith}
-use Rattle.values.proofs.Laws.{◌⟫◌, wrote_none}
-use Rattle.rows.proofs.Laws.{row_has, row_lacks}
+use Rattle.values.proofs.Laws.{◌⟫◌, writes_stop}
 use Rattle.rows.specs.Row.{options_words}
+use Rattle.rows.proofs.Laws.{row_has}
 use Rattle.rows.proofs.put_options.Goals as goal
 
-pub returns-then-columns-ne4 : goal.returns-then-columns-ne4
+pub returns-in_err-push_cell : goal.returns-in_err-push_cell
 unfolding options_words
-returns-then-columns-ne4 c = rw (row_lacks 4 _ _ _ c.columns.ensures.0 (omega arith) c.if-columns-ne4.true) (wrote_none _)
+returns-in_err-push_cell c = rw (row_has 4 _ _ c.in_ok-line.ensures.count, ← c.in_ok-line.ensures.line.0, ← c.column.ensures)
+    (writes_stop _ c.from_residual-in_err-push_cell.ensures c.in_err-push_cell.ensures)
 
-pub column-requires : goal.column-requires
-column-requires c = (c.columns.ensures.1, omega arith, omega (arith, c.columns.ensures.0, c.if-columns-ne4.false))
+pub returns-in_err-push_cell-2 : goal.returns-in_err-push_cell-2
+unfolding options_words
+returns-in_err-push_cell-2 c = rw (row_has 4 _ _ c.in_ok-line.ensures.count, ← c.in_ok-line.ensures.line.0, ← c.column.ensures, ← c.column-2.ensures)
+    (c.in_ok-push_cell.ensures ⟫ writes_stop _ c.from_residual-in_err-push_cell-2.ensures c.in_err-push_cell-2.ensures)
 
-pub column-requires-2 : goal.column-requires-2
-column-requires-2 c = (c.columns.ensures.1, omega arith, omega (arith, c.columns.ensures.0, c.if-columns-ne4.false))
-
-pub column-requires-3 : goal.column-requires-3
-column-requires-3 c = (c.columns.ensures.1, omega arith, omega (arith, c.columns.ensures.0, c.if-columns-ne4.false))
-
-pub column-requires-4 : goal.column-requires-4
-column-requires-4 c = (c.columns.ensures.1, omega arith, omega (arith, c.columns.ensures.0, c.if-columns-ne4.false))
-
-pub shape_of-out : goal.shape_of-out
-shape_of-out c = c.put_cell.ensures.size ∙ c.put_cell-p3.ensures.size ∙ c.put_cell-p2.ensures.size ∙ c.put_cell-p1.ensures.size
+pub returns-in_err-push_cell-3 : goal.returns-in_err-push_cell-3
+unfolding options_words
+returns-in_err-push_cell-3 c = rw (row_has 4 _ _ c.in_ok-line.ensures.count, ← c.in_ok-line.ensures.line.0, ← c.column.ensures, ← c.column-2.ensures, ← c.column-3.ensures)
+    (c.in_ok-push_cell.ensures ⟫ c.in_ok-push_cell-2.ensures ⟫ writes_stop _ c.from_residual-in_err-push_cell-3.ensures c.in_err-push_cell-3.ensures)
 
 pub returns : goal.returns
 unfolding options_words
-returns c = rw (row_has 4 _ _ _ c.columns.ensures.0 (omega arith) c.if-columns-ne4.false, ← c.column.ensures, ← c.column-2.ensures, ← c.column-3.ensures, ← c.column-4.ensures) (c.put_cell-p1.ensures ⟫ c.put_cell-p2.ensures ⟫ c.put_cell-p3.ensures ⟫ c.put_cell.ensures)
+returns c = rw (row_has 4 _ _ c.in_ok-line.ensures.count, ← c.in_ok-line.ensures.line.0, ← c.column.ensures, ← c.column-2.ensures, ← c.column-3.ensures, ← c.column-4.ensures)
+    (c.in_ok-push_cell.ensures ⟫ c.in_ok-push_cell-2.ensures ⟫ c.in_ok-push_cell-3.ensures ⟫ c.push_cell-4.ensures)

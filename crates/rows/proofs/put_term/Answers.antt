@@ -1,44 +1,49 @@
-use mathlib.Core.Path.{◌∙◌}
-use native.Mathlib.Omega.{arith}
-use Rattle.values.proofs.Laws.{◌⟫◌, wrote_none}
-use Rattle.rows.proofs.Laws.{row_has, row_lacks}
+use Rattle.values.proofs.Laws.{◌⟫◌, writes_stop}
 use Rattle.rows.specs.Row.{term_words}
+use Rattle.rows.proofs.Laws.{row_has}
 use Rattle.rows.proofs.put_term.Goals as goal
 
-pub returns-then-columns-ne9 : goal.returns-then-columns-ne9
+pub returns-in_err-push_cell : goal.returns-in_err-push_cell
 unfolding term_words
-returns-then-columns-ne9 c = rw (row_lacks 9 _ _ _ c.columns.ensures.0 (omega arith) c.if-columns-ne9.true) (wrote_none _)
+returns-in_err-push_cell c = rw (row_has 9 _ _ c.in_ok-line.ensures.count, ← c.in_ok-line.ensures.line.0, ← c.column.ensures)
+    (writes_stop _ c.from_residual-in_err-push_cell.ensures c.in_err-push_cell.ensures)
 
-pub column-requires : goal.column-requires
-column-requires c = (c.columns.ensures.1, omega arith, omega (arith, c.columns.ensures.0, c.if-columns-ne9.false))
+pub returns-in_err-push_cell-2 : goal.returns-in_err-push_cell-2
+unfolding term_words
+returns-in_err-push_cell-2 c = rw (row_has 9 _ _ c.in_ok-line.ensures.count, ← c.in_ok-line.ensures.line.0, ← c.column.ensures, ← c.column-2.ensures)
+    (c.in_ok-push_cell.ensures ⟫ writes_stop _ c.from_residual-in_err-push_cell-2.ensures c.in_err-push_cell-2.ensures)
 
-pub column-requires-2 : goal.column-requires-2
-column-requires-2 c = (c.columns.ensures.1, omega arith, omega (arith, c.columns.ensures.0, c.if-columns-ne9.false))
+pub returns-in_err-push_cell-3 : goal.returns-in_err-push_cell-3
+unfolding term_words
+returns-in_err-push_cell-3 c = rw (row_has 9 _ _ c.in_ok-line.ensures.count, ← c.in_ok-line.ensures.line.0, ← c.column.ensures, ← c.column-2.ensures, ← c.column-3.ensures)
+    (c.in_ok-push_cell.ensures ⟫ c.in_ok-push_cell-2.ensures ⟫ writes_stop _ c.from_residual-in_err-push_cell-3.ensures c.in_err-push_cell-3.ensures)
 
-pub column-requires-3 : goal.column-requires-3
-column-requires-3 c = (c.columns.ensures.1, omega arith, omega (arith, c.columns.ensures.0, c.if-columns-ne9.false))
+pub returns-in_err-push_cell-4 : goal.returns-in_err-push_cell-4
+unfolding term_words
+returns-in_err-push_cell-4 c = rw (row_has 9 _ _ c.in_ok-line.ensures.count, ← c.in_ok-line.ensures.line.0, ← c.column.ensures, ← c.column-2.ensures, ← c.column-3.ensures, ← c.column-4.ensures)
+    (c.in_ok-push_cell.ensures ⟫ c.in_ok-push_cell-2.ensures ⟫ c.in_ok-push_cell-3.ensures ⟫ writes_stop _ c.from_residual-in_err-push_cell-4.ensures c.in_err-push_cell-4.ensures)
 
-pub column-requires-4 : goal.column-requires-4
-column-requires-4 c = (c.columns.ensures.1, omega arith, omega (arith, c.columns.ensures.0, c.if-columns-ne9.false))
+pub returns-in_err-push_cell-5 : goal.returns-in_err-push_cell-5
+unfolding term_words
+returns-in_err-push_cell-5 c = rw (row_has 9 _ _ c.in_ok-line.ensures.count, ← c.in_ok-line.ensures.line.0, ← c.column.ensures, ← c.column-2.ensures, ← c.column-3.ensures, ← c.column-4.ensures, ← c.column-5.ensures)
+    (c.in_ok-push_cell.ensures ⟫ c.in_ok-push_cell-2.ensures ⟫ c.in_ok-push_cell-3.ensures ⟫ c.in_ok-push_cell-4.ensures ⟫ writes_stop _ c.from_residual-in_err-push_cell-5.ensures c.in_err-push_cell-5.ensures)
 
-pub column-requires-5 : goal.column-requires-5
-column-requires-5 c = (c.columns.ensures.1, omega arith, omega (arith, c.columns.ensures.0, c.if-columns-ne9.false))
+pub returns-in_err-push_cell-6 : goal.returns-in_err-push_cell-6
+unfolding term_words
+returns-in_err-push_cell-6 c = rw (row_has 9 _ _ c.in_ok-line.ensures.count, ← c.in_ok-line.ensures.line.0, ← c.column.ensures, ← c.column-2.ensures, ← c.column-3.ensures, ← c.column-4.ensures, ← c.column-5.ensures, ← c.column-6.ensures)
+    (c.in_ok-push_cell.ensures ⟫ c.in_ok-push_cell-2.ensures ⟫ c.in_ok-push_cell-3.ensures ⟫ c.in_ok-push_cell-4.ensures ⟫ c.in_ok-push_cell-5.ensures ⟫ writes_stop _ c.from_residual-in_err-push_cell-6.ensures c.in_err-push_cell-6.ensures)
 
-pub column-requires-6 : goal.column-requires-6
-column-requires-6 c = (c.columns.ensures.1, omega arith, omega (arith, c.columns.ensures.0, c.if-columns-ne9.false))
+pub returns-in_err-push_cell-7 : goal.returns-in_err-push_cell-7
+unfolding term_words
+returns-in_err-push_cell-7 c = rw (row_has 9 _ _ c.in_ok-line.ensures.count, ← c.in_ok-line.ensures.line.0, ← c.column.ensures, ← c.column-2.ensures, ← c.column-3.ensures, ← c.column-4.ensures, ← c.column-5.ensures, ← c.column-6.ensures, ← c.column-7.ensures)
+    (c.in_ok-push_cell.ensures ⟫ c.in_ok-push_cell-2.ensures ⟫ c.in_ok-push_cell-3.ensures ⟫ c.in_ok-push_cell-4.ensures ⟫ c.in_ok-push_cell-5.ensures ⟫ c.in_ok-push_cell-6.ensures ⟫ writes_stop _ c.from_residual-in_err-push_cell-7.ensures c.in_err-push_cell-7.ensures)
 
-pub column-requires-7 : goal.column-requires-7
-column-requires-7 c = (c.columns.ensures.1, omega arith, omega (arith, c.columns.ensures.0, c.if-columns-ne9.false))
-
-pub column-requires-8 : goal.column-requires-8
-column-requires-8 c = (c.columns.ensures.1, omega arith, omega (arith, c.columns.ensures.0, c.if-columns-ne9.false))
-
-pub column-requires-9 : goal.column-requires-9
-column-requires-9 c = (c.columns.ensures.1, omega arith, omega (arith, c.columns.ensures.0, c.if-columns-ne9.false))
-
-pub shape_of-out : goal.shape_of-out
-shape_of-out c = c.put_list.ensures.size ∙ c.put_cell-p8.ensures.size ∙ c.put_cell-p7.ensures.size ∙ c.put_cell-p6.ensures.size ∙ c.put_cell-p5.ensures.size ∙ c.put_cell-p4.ensures.size ∙ c.put_cell-p3.ensures.size ∙ c.put_cell-p2.ensures.size ∙ c.put_cell-p1.ensures.size
+pub returns-in_err-push_cell-8 : goal.returns-in_err-push_cell-8
+unfolding term_words
+returns-in_err-push_cell-8 c = rw (row_has 9 _ _ c.in_ok-line.ensures.count, ← c.in_ok-line.ensures.line.0, ← c.column.ensures, ← c.column-2.ensures, ← c.column-3.ensures, ← c.column-4.ensures, ← c.column-5.ensures, ← c.column-6.ensures, ← c.column-7.ensures, ← c.column-8.ensures)
+    (c.in_ok-push_cell.ensures ⟫ c.in_ok-push_cell-2.ensures ⟫ c.in_ok-push_cell-3.ensures ⟫ c.in_ok-push_cell-4.ensures ⟫ c.in_ok-push_cell-5.ensures ⟫ c.in_ok-push_cell-6.ensures ⟫ c.in_ok-push_cell-7.ensures ⟫ writes_stop _ c.from_residual-in_err-push_cell-8.ensures c.in_err-push_cell-8.ensures)
 
 pub returns : goal.returns
 unfolding term_words
-returns c = rw (row_has 9 _ _ _ c.columns.ensures.0 (omega arith) c.if-columns-ne9.false, ← c.column.ensures, ← c.column-2.ensures, ← c.column-3.ensures, ← c.column-4.ensures, ← c.column-5.ensures, ← c.column-6.ensures, ← c.column-7.ensures, ← c.column-8.ensures, ← c.column-9.ensures) (c.put_cell-p1.ensures ⟫ c.put_cell-p2.ensures ⟫ c.put_cell-p3.ensures ⟫ c.put_cell-p4.ensures ⟫ c.put_cell-p5.ensures ⟫ c.put_cell-p6.ensures ⟫ c.put_cell-p7.ensures ⟫ c.put_cell-p8.ensures ⟫ c.put_list.ensures)
+returns c = rw (row_has 9 _ _ c.in_ok-line.ensures.count, ← c.in_ok-line.ensures.line.0, ← c.column.ensures, ← c.column-2.ensures, ← c.column-3.ensures, ← c.column-4.ensures, ← c.column-5.ensures, ← c.column-6.ensures, ← c.column-7.ensures, ← c.column-8.ensures, ← c.column-9.ensures)
+    (c.in_ok-push_cell.ensures ⟫ c.in_ok-push_cell-2.ensures ⟫ c.in_ok-push_cell-3.ensures ⟫ c.in_ok-push_cell-4.ensures ⟫ c.in_ok-push_cell-5.ensures ⟫ c.in_ok-push_cell-6.ensures ⟫ c.in_ok-push_cell-7.ensures ⟫ c.in_ok-push_cell-8.ensures ⟫ c.put_list.ensures)

@@ -1,7 +1,15 @@
-use Rattle.values.specs.Words.{said, ◌⧺◌}
-use Rattle.values.proofs.Laws.{◌⟫◌}
+use Prim.Native.Nat.{◌+◌}
+use mathlib.Core.List.{[], ◌∷◌}
+use mathlib.Core.Option.{some}
+use lib.ListN.{length}
+use Rattle.values.specs.Words.{◌⧺◌}
+use Rattle.values.proofs.Laws.{◌⟫◌, writes_stop}
 use Rattle.rows.proofs.put_text.Goals as goal
 
+pub returns-in_err-push : goal.returns-in_err-push
+unfolding ◌⧺◌
+returns-in_err-push c = writes_stop (some ((c.args.from + length c.args.line.now) ∷ [])) c.from_residual.ensures c.in_err-push.ensures
+
 pub returns : goal.returns
-unfolding said ◌⧺◌
-returns c = (c.put-p.ensures ⟫ c.put.ensures)
+unfolding ◌⧺◌
+returns c = c.in_ok-push.ensures ⟫ c.push-2.ensures

@@ -1,40 +1,39 @@
-use mathlib.Core.Path.{refl, ap, ◌∙◌}
-use native.Mathlib.Omega.{arith}
-use Rattle.tokens.specs.Token.{place, rising}
-use Rattle.values.proofs.Laws.{◌⟫◌, wrote_none}
-use Rattle.rows.proofs.Laws.{row_has, row_lacks, type_names}
+use Rattle.values.proofs.Laws.{◌⟫◌, writes_stop, writes_none, word_none, kind_read}
 use Rattle.rows.specs.Row.{type_words}
+use Rattle.rows.proofs.Laws.{row_has}
 use Rattle.rows.proofs.put_type.Goals as goal
 
-pub returns-then-columns-ne6 : goal.returns-then-columns-ne6
+pub returns-in_err-kind : goal.returns-in_err-kind
 unfolding type_words
-returns-then-columns-ne6 c = rw (row_lacks 6 _ _ _ c.columns.ensures.0 (omega arith) c.if-columns-ne6.true) (wrote_none _)
+returns-in_err-kind c = rw (row_has 6 _ _ c.in_ok-line.ensures.count, ← c.in_ok-line.ensures.line.0, ← c.column.ensures)
+    (writes_stop _ c.from_residual-in_err-kind.ensures (writes_none (word_none _ c.in_err-kind.ensures)))
 
-pub column-requires : goal.column-requires
-column-requires c = (c.columns.ensures.1, omega arith, omega (arith, c.columns.ensures.0, c.if-columns-ne6.false))
+pub returns-in_err-push : goal.returns-in_err-push
+unfolding type_words
+returns-in_err-push c = rw (row_has 6 _ _ c.in_ok-line.ensures.count, ← c.in_ok-line.ensures.line.0, ← c.column.ensures, (kind_read _ _ _ c.in_ok-kind.ensures).0, (kind_read _ _ _ c.in_ok-kind.ensures).1, ← c.number.ensures)
+    (writes_stop _ c.from_residual-in_err-push.ensures c.in_err-push.ensures)
 
-pub find_name-k-requires : goal.find_name-k-requires
-unfolding rising
-find_name-k-requires c = refl
+pub returns-in_err-push_cell : goal.returns-in_err-push_cell
+unfolding type_words
+returns-in_err-push_cell c = rw (row_has 6 _ _ c.in_ok-line.ensures.count, ← c.in_ok-line.ensures.line.0, ← c.column.ensures, (kind_read _ _ _ c.in_ok-kind.ensures).0, (kind_read _ _ _ c.in_ok-kind.ensures).1, ← c.column-2.ensures, ← c.number.ensures)
+    (c.in_ok-push.ensures ⟫ writes_stop _ c.from_residual-in_err-push_cell.ensures c.in_err-push_cell.ensures)
 
-pub column-requires-2 : goal.column-requires-2
-column-requires-2 c = (c.columns.ensures.1, omega arith, omega (arith, c.columns.ensures.0, c.if-columns-ne6.false))
+pub returns-in_err-push_cell-2 : goal.returns-in_err-push_cell-2
+unfolding type_words
+returns-in_err-push_cell-2 c = rw (row_has 6 _ _ c.in_ok-line.ensures.count, ← c.in_ok-line.ensures.line.0, ← c.column.ensures, (kind_read _ _ _ c.in_ok-kind.ensures).0, (kind_read _ _ _ c.in_ok-kind.ensures).1, ← c.column-2.ensures, ← c.column-3.ensures, ← c.bits-bits.ensures, ← c.number.ensures)
+    (c.in_ok-push.ensures ⟫ c.in_ok-push_cell.ensures ⟫ writes_stop _ c.from_residual-in_err-push_cell-2.ensures c.in_err-push_cell-2.ensures)
 
-pub column-requires-3 : goal.column-requires-3
-column-requires-3 c = (c.columns.ensures.1, omega arith, omega (arith, c.columns.ensures.0, c.if-columns-ne6.false))
+pub returns-in_err-push_cell-3 : goal.returns-in_err-push_cell-3
+unfolding type_words
+returns-in_err-push_cell-3 c = rw (row_has 6 _ _ c.in_ok-line.ensures.count, ← c.in_ok-line.ensures.line.0, ← c.column.ensures, (kind_read _ _ _ c.in_ok-kind.ensures).0, (kind_read _ _ _ c.in_ok-kind.ensures).1, ← c.column-2.ensures, ← c.column-3.ensures, ← c.bits-bits.ensures, ← c.column-4.ensures, ← c.number.ensures)
+    (c.in_ok-push.ensures ⟫ c.in_ok-push_cell.ensures ⟫ c.in_ok-push_cell-2.ensures ⟫ writes_stop _ c.from_residual-in_err-push_cell-3.ensures c.in_err-push_cell-3.ensures)
 
-pub column-requires-4 : goal.column-requires-4
-column-requires-4 c = (c.columns.ensures.1, omega arith, omega (arith, c.columns.ensures.0, c.if-columns-ne6.false))
-
-pub column-requires-5 : goal.column-requires-5
-column-requires-5 c = (c.columns.ensures.1, omega arith, omega (arith, c.columns.ensures.0, c.if-columns-ne6.false))
-
-pub column-requires-6 : goal.column-requires-6
-column-requires-6 c = (c.columns.ensures.1, omega arith, omega (arith, c.columns.ensures.0, c.if-columns-ne6.false))
-
-pub shape_of-out : goal.shape_of-out
-shape_of-out c = c.put_list.ensures.size ∙ c.put_cell-p5.ensures.size ∙ c.put_cell-p4.ensures.size ∙ c.put_cell-p3.ensures.size ∙ c.put_cell-p2.ensures.size ∙ c.put_kind-p1.ensures.size
+pub returns-in_err-push_cell-4 : goal.returns-in_err-push_cell-4
+unfolding type_words
+returns-in_err-push_cell-4 c = rw (row_has 6 _ _ c.in_ok-line.ensures.count, ← c.in_ok-line.ensures.line.0, ← c.column.ensures, (kind_read _ _ _ c.in_ok-kind.ensures).0, (kind_read _ _ _ c.in_ok-kind.ensures).1, ← c.column-2.ensures, ← c.column-3.ensures, ← c.bits-bits.ensures, ← c.column-4.ensures, ← c.column-5.ensures, ← c.pos.ensures, ← c.number.ensures)
+    (c.in_ok-push.ensures ⟫ c.in_ok-push_cell.ensures ⟫ c.in_ok-push_cell-2.ensures ⟫ c.in_ok-push_cell-3.ensures ⟫ writes_stop _ c.from_residual-in_err-push_cell-4.ensures c.in_err-push_cell-4.ensures)
 
 pub returns : goal.returns
 unfolding type_words
-returns c = rw (row_has 6 _ _ _ c.columns.ensures.0 (omega arith) c.if-columns-ne6.false, ← c.column.ensures, ← c.column-2.ensures, ← c.column-3.ensures, ← c.column-4.ensures, ← c.column-5.ensures, ← c.column-6.ensures, ← (c.find_name-k.ensures ∙ ap (λ names. place names c.column.result.now) type_names), ← c.sort_of-bits.ensures, ← c.sort_of.ensures, ← c.sort_of-2.ensures) (c.put_kind-p1.ensures ⟫ c.put_cell-p2.ensures ⟫ c.put_cell-p3.ensures ⟫ c.put_cell-p4.ensures ⟫ c.put_cell-p5.ensures ⟫ c.put_list.ensures)
+returns c = rw (row_has 6 _ _ c.in_ok-line.ensures.count, ← c.in_ok-line.ensures.line.0, ← c.column.ensures, (kind_read _ _ _ c.in_ok-kind.ensures).0, (kind_read _ _ _ c.in_ok-kind.ensures).1, ← c.column-2.ensures, ← c.column-3.ensures, ← c.bits-bits.ensures, ← c.column-4.ensures, ← c.column-5.ensures, ← c.pos.ensures, ← c.column-6.ensures, ← c.list.ensures, ← c.number.ensures)
+    (c.in_ok-push.ensures ⟫ c.in_ok-push_cell.ensures ⟫ c.in_ok-push_cell-2.ensures ⟫ c.in_ok-push_cell-3.ensures ⟫ c.in_ok-push_cell-4.ensures ⟫ c.put_list.ensures)

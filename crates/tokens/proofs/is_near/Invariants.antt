@@ -1,4 +1,4 @@
-use Prim.Native.Nat.{◌+◌, ◌-◌, ◌≤◌}
+use Prim.Native.Nat.{◌+◌}
 use mathlib.Core.Path.{◌≡◌}
 use mathlib.Core.Bool.{false}
 use lib.ListN.{drop}
@@ -6,7 +6,4 @@ use Rattle.tokens.specs.Token.{until}
 use Rattle.tokens.proofs.is_near.Given as goal
 
 abbrev pub invariant-loop-k : goal.invariant-loop-k
-invariant-loop-k l = (l.k ≤ 16) × (l.found ≡ false → until l.b (drop l.i l.s) ≡ l.k + until l.b (drop (l.i + l.k) l.s))
-
-abbrev pub decreases-loop-k : goal.decreases-loop-k
-decreases-loop-k l = 16 - l.k
+invariant-loop-k l = l.found ≡ false → until l.b (drop l.i l.s) ≡ l.k + until l.b (drop (l.i + l.k) l.s)

@@ -5,14 +5,14 @@ use Rattle.plan.specs.Layout.{number, number_to, only}
 use Rattle.values.proofs.Laws.{told_none, told_some}
 use Rattle.values.proofs.read_number_to.Goals as goal
 
-pub returns-in_default : goal.returns-in_default
+pub returns-in_err-n : goal.returns-in_err-n
 unfolding number_to only told
-returns-in_default c = rw (told_none (number c.args.t.now) (sym c.read_number-r.ensures ∙ c.in_default.is))
+returns-in_err-n c = rw (told_none (number c.args.t.now) (sym c.in_err-n.was ∙ c.read_number.ensures)) c.from_residual.ensures
 
-pub returns-then-v-most : goal.returns-then-v-most
+pub returns-then-n-most : goal.returns-then-n-most
 unfolding number_to only told
-returns-then-v-most c = rw (told_some (number c.args.t.now) _ (sym c.read_number-r.ensures ∙ c.in-Value.is), le-leb _ _ c.if-v-most.true)
+returns-then-n-most c = rw (told_some (number c.args.t.now) _ (sym c.in_ok-n.was ∙ c.read_number.ensures), le-leb _ _ c.if-n-most.true)
 
-pub returns : goal.returns
+pub returns-else-n-most : goal.returns-else-n-most
 unfolding number_to only told
-returns c = rw (told_some (number c.args.t.now) _ (sym c.read_number-r.ensures ∙ c.in-Value.is), lt-leb _ _ c.if-v-most.false)
+returns-else-n-most c = rw (told_some (number c.args.t.now) _ (sym c.in_ok-n.was ∙ c.read_number.ensures), lt-leb _ _ c.if-n-most.false)

@@ -1,21 +1,14 @@
-use Prim.Native.Nat.{◌+◌, ◌-◌}
-use mathlib.Core.Path.{sym}
+use Prim.Native.Nat.{◌+◌}
+use mathlib.Core.Path.{◌∙◌}
+use mathlib.Core.Bool.{true}
 use native.Mathlib.Omega.{arith}
-use Rattle.layout.specs.View.{cut}
-use Rattle.weights.proofs.Laws.{level_is, below_end, below_out, below_one}
+use Rattle.std.proofs.Common.{rules}
+use Rattle.view.specs.Buffers.{words_of}
+use Rattle.weights.proofs.Laws.{level_is, none_below, all_counted}
 use Rattle.weights.proofs.rows_below.Goals as goal
 
 pub returns-then-end-r : goal.returns-then-end-r
-returns-then-end-r c = sym (below_end c.args.words.now c.args.rows.now _ (c.args.r + 1) c.args.end (omega arith))
-
-pub loop-i-init : goal.loop-i-init
-loop-i-init c = (omega arith, omega arith)
-
-pub returns-then-word-above : goal.returns-then-word-above
-returns-then-word-above c = rw (level_is (cut c.args.words.now c.args.rows.now c.args.r), sym c.word-above.ensures) (omega (arith, c.loop-i.invariant.1, below_out c.args.words.now c.args.rows.now c.word-above.result c.loop-i.i c.args.end c.loop-i-test.true (omega (arith, c.word.ensures))))
-
-pub loop-i-preserved : goal.loop-i-preserved
-loop-i-preserved c = (omega arith, omega (arith, c.loop-i.invariant.1, below_one c.args.words.now c.args.rows.now c.word-above.result c.loop-i.i c.args.end c.loop-i-test.true (omega (arith, c.word.ensures))))
+returns-then-end-r c = none_below c.args.plan.now _ c.args.end (c.args.r + 1) (omega arith)
 
 pub returns : goal.returns
-returns c = rw (level_is (cut c.args.words.now c.args.rows.now c.args.r), sym c.word-above.ensures) (omega (arith, c.loop-i.invariant.1, below_end c.args.words.now c.args.rows.now c.word-above.result c.loop-i.i c.args.end c.loop-i-test.false))
+returns c = rw (level_is (words_of c.args.plan.now c.args.r), ← c.word.ensures) (c.count_below.ensures (λ r. true) (λ r b k. search rules) ∙ all_counted _)

@@ -1,14 +1,15 @@
-use Prim.Native.Nat.{◌+◌, ◌-◌, ◌≤◌}
 use mathlib.Core.Path.{◌≡◌}
-use lib.ListN.{length, drop}
-use Rattle.plan.specs.Refusal.{every}
 use mathlib.Core.Bool.{◌&&◌}
 use lib.Dec.{ltb}
+use lib.ListN.{length, drop}
+use Rattle.plan.specs.Refusal.{every}
 use Rattle.rows.specs.View.{fields_in}
+use Rattle.view.specs.Buffers.{words_of}
 use Rattle.checks.proofs.list.fields_below.Given as goal
 
-abbrev pub invariant-loop-k : goal.invariant-loop-k
-invariant-loop-k l = (l.k ≤ length l.row + 256) × (every (λ f. ltb f.name l.syms && ltb f.ty l.types) (fields_in (drop l.k l.row)) ≡ every (λ f. ltb f.name l.syms && ltb f.ty l.types) (fields_in (drop l.header l.row)))
+-- the fields that are left pass as all do
+abbrev pub invariant-loop-fields : goal.invariant-loop-fields
+invariant-loop-fields l = every (λ f. ltb f.name l.syms && ltb f.ty l.types) (fields_in l.fields) ≡ every (λ f. ltb f.name l.syms && ltb f.ty l.types) (fields_in (drop l.header (words_of l.plan l.r)))
 
-abbrev pub decreases-loop-k : goal.decreases-loop-k
-decreases-loop-k l = length l.row - l.k
+abbrev pub decreases-loop-fields : goal.decreases-loop-fields
+decreases-loop-fields l = length l.fields

@@ -1,16 +1,13 @@
-use Prim.Native.Nat.{◌-◌}
-use mathlib.Core.Path.{sym, ◌∙◌}
-use native.Mathlib.Omega.{arith}
-use borrow.Author.Tests.{lt-ltb, le-ltb}
+use mathlib.Core.Path.{ap, ◌∙◌}
 use lib.Dec.{ltb}
-use Rattle.checks.proofs.Every.{list_true, list_false, list_end}
+use Rattle.plan.specs.Refusal.{every}
+use Rattle.std.proofs.Common.{rules}
+use Rattle.std.proofs.lemmas.Iterator.{YieldsList-from_slice}
+use Rattle.std.proofs.lemmas.Iterator.Search.{all_from_yields_List}
+use Rattle.checks.proofs.Every.{every_list}
 use Rattle.checks.proofs.list.list_below.Goals as goal
 
-pub returns-then-n-wide : goal.returns-then-n-wide
-returns-then-n-wide c = rw (← c.row-row.ensures) (sym (list_false (λ q. ltb q c.args.n) c.row-row.result.now c.loop-k.k (omega arith) (le-ltb _ c.args.n (omega arith))) ∙ c.loop-k.invariant)
-
-pub loop-k-preserved : goal.loop-k-preserved
-loop-k-preserved c = sym (list_true (λ q. ltb q c.args.n) c.row-row.result.now c.loop-k.k (omega arith) (lt-ltb _ c.args.n (omega arith))) ∙ c.loop-k.invariant
-
 pub returns : goal.returns
-returns c = rw (← c.row-row.ensures) (sym (list_end (λ q. ltb q c.args.n) c.row-row.result.now c.loop-k.k (omega arith)) ∙ c.loop-k.invariant)
+returns c =
+    all_from_yields_List (λ q. ltb q c.args.n) _ _ _ c.all.ensures.ran (YieldsList-from_slice _ c.iter.ensures.rest) (λ x b q k. search rules)
+    ∙ every_list _ _ ∙ ap (every (λ q. ltb q c.args.n)) c.list_of.ensures

@@ -1,18 +1,11 @@
-use Rattle.std.specs.Prelude.{◌-◌}
-use mathlib.Core.Path.{refl, ◌∙◌}
 use native.Mathlib.Omega.{arith}
-use Rattle.ctx_trait.proofs.Shown.{left_all, left_more, left_end}
+use Rattle.view.specs.Buffers.{env_of}
+use Rattle.emits.specs.Sinks.{left_more, left_end}
 use Rattle.emit_items.proofs.Lists.{files_next, files_end, file_count}
 use Rattle.emit_items.proofs.header.file_lines.Goals as goal
 
-pub loop-i-init : goal.loop-i-init
-loop-i-init c = (λ env index h. left_all (refl), refl)
-
 pub loop-i-preserved : goal.loop-i-preserved
-loop-i-preserved c = (λ env index h. let z = c.row_count-n.ensures.0 c.args.words.now c.args.rows.now in let y = file_count h in left_more (c.loop-i.invariant.0 env index h) (files_next env.files c.loop-i.i (omega arith)) (c.file_line-at.ensures env index h), c.file_line-at.auto.out ∙ c.loop-i.invariant.1)
-
-pub shape_of-out : goal.shape_of-out
-shape_of-out c = c.loop-i.invariant.1
+loop-i-preserved c = left_more c.loop-i.invariant (files_next (env_of c.args.plan.now).files c.loop-i.i (omega (arith, file_count c.args.plan.now))) c.file_line.ensures
 
 pub returns : goal.returns
-returns c = λ env index h. let z = c.row_count-n.ensures.0 c.args.words.now c.args.rows.now in let y = file_count h in left_end (c.loop-i.invariant.0 env index h) (files_end env.files c.loop-i.i (omega arith))
+returns c = left_end c.loop-i.invariant (files_end (env_of c.args.plan.now).files c.loop-i.i (omega (arith, file_count c.args.plan.now)))

@@ -1,18 +1,14 @@
-use Rattle.std.specs.Prelude.{◌-◌}
-use mathlib.Core.Path.{refl, sym, ap, ◌∙◌}
-use native.Mathlib.Omega.{arith}
-use Rattle.emit_items.proofs.Lists.{unit_true, unit_false, unit_end}
+use mathlib.Core.Path.{refl, ◌∙◌}
+use Rattle.std.proofs.Common.{rules}
+use Rattle.std.proofs.lemmas.Iterator.{YieldsList-from_range}
+use Rattle.std.proofs.lemmas.Iterator.Search.{all_from_yields_List}
+use Rattle.plan.specs.Lookup.{variant_at}
+use Rattle.view.specs.Buffers.{env_of}
 use Rattle.codegen.specs.Items.{is_unit}
+use Rattle.emit_items.proofs.Lists.{unit_all}
 use Rattle.emit_items.proofs.internal_types.all_unit.Goals as goal
 
-pub loop-k-init : goal.loop-k-init
-loop-k-init c = λ env plan tables h. refl
-
-pub returns-then-not-is_unit : goal.returns-then-not-is_unit
-returns-then-not-is_unit c = λ env plan tables h. let z = c.variant_count-count.ensures env plan c.args.words.now c.args.rows.now tables h in unit_false env c.args.n c.loop-k.k (omega arith) (sym (c.is_unit.ensures _ ∙ ap is_unit (c.variant_at-v.ensures env plan tables h).1) ∙ c.if-not-is_unit.true) ∙ c.loop-k.invariant env plan tables h
-
-pub loop-k-preserved : goal.loop-k-preserved
-loop-k-preserved c = λ env plan tables h. let z = c.variant_count-count.ensures env plan c.args.words.now c.args.rows.now tables h in unit_true env c.args.n c.loop-k.k (omega arith) (sym (c.is_unit.ensures _ ∙ ap is_unit (c.variant_at-v.ensures env plan tables h).1) ∙ c.if-not-is_unit.false) ∙ c.loop-k.invariant env plan tables h
-
 pub returns : goal.returns
-returns c = λ env plan tables h. let z = c.variant_count-count.ensures env plan c.args.words.now c.args.rows.now tables h in unit_end env c.args.n c.loop-k.k (omega arith) ∙ c.loop-k.invariant env plan tables h
+returns c = λ v.
+    all_from_yields_List (λ k. is_unit (variant_at (env_of c.args.plan.now) c.args.ty.0 k).fields) _ _ _ c.all.ensures.ran (YieldsList-from_range _ _ _ refl refl) (λ x b q k. search (rules, v))
+    ∙ unit_all (env_of c.args.plan.now) c.args.ty.0 _ (c.variant_count.ensures v)

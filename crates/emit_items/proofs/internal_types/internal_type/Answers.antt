@@ -1,30 +1,31 @@
-use mathlib.Core.Path.{sym, ap, ◌∙◌}
-use Rattle.ctx_trait.proofs.Shown.{shows_as}
-use Rattle.emits.specs.Pieces.{shows_none}
+use Rattle.std.proofs.Common.{inl, inr}
+use Rattle.std.proofs.lemmas.Bool.{not-true, not-false}
 use Rattle.codegen.specs.Items.{internal_type}
-use Rattle.emit_items.proofs.Lists.{type_builtin, type_primitive, type_enum, type_struct, enum_extern, enum_intern, struct_extern, struct_intern}
+use Rattle.emits.specs.Sinks.{shows_none}
+use Rattle.emit_items.proofs.Lists.{type_as}
 use Rattle.emit_items.proofs.internal_types.internal_type.Goals as goal
-
-pub returns-then-d : goal.returns-then-d
-unfolding internal_type
-returns-then-d c = λ env h. shows_as (ap (internal_type env c.args.n) (sym (c.type_at-t.ensures env c.args.plan.now c.args.index.now h) ∙ type_enum _ c.in-Enum.is) ∙ enum_extern env c.args.n _ c.if-d.true) shows_none
-
-pub returns-then-d-2 : goal.returns-then-d-2
-unfolding internal_type
-returns-then-d-2 c = λ env h. shows_as (ap (internal_type env c.args.n) (sym (c.type_at-t.ensures env c.args.plan.now c.args.index.now h) ∙ type_struct _ c.in-Struct.is) ∙ struct_extern env c.args.n _ _ c.if-d-2.true) shows_none
 
 pub returns-in-Builtin : goal.returns-in-Builtin
 unfolding internal_type
-returns-in-Builtin c = λ env h. shows_as (ap (internal_type env c.args.n) (sym (c.type_at-t.ensures env c.args.plan.now c.args.index.now h) ∙ type_builtin _ c.in-Builtin.is)) shows_none
+returns-in-Builtin c = λ v. elim c.in-Builtin.is [ inl w ↦ rw (type_as _ c.data.ensures w.1) shows_none | inr w ↦ rw (type_as _ c.data.ensures w.1) shows_none ]
 
-pub returns-in-Primitive : goal.returns-in-Primitive
+pub returns-then-not-d : goal.returns-then-not-d
 unfolding internal_type
-returns-in-Primitive c = λ env h. shows_as (ap (internal_type env c.args.n) (sym (c.type_at-t.ensures env c.args.plan.now c.args.index.now h) ∙ type_primitive _ c.in-Primitive.is)) shows_none
+returns-then-not-d c = λ v.
+    let intern = not-true _ c.if-not-d.true in
+    rw (type_as _ c.data.ensures c.in-Enum.is, intern) (rw intern at (c.enum_type.ensures v))
 
-pub returns-else-d : goal.returns-else-d
+pub returns-else-not-d : goal.returns-else-not-d
 unfolding internal_type
-returns-else-d c = λ env h. shows_as (ap (internal_type env c.args.n) (sym (c.type_at-t.ensures env c.args.plan.now c.args.index.now h) ∙ type_enum _ c.in-Enum.is) ∙ enum_intern env c.args.n _ c.if-d.false) (c.enum_type.ensures env h)
+returns-else-not-d c = λ v. rw (type_as _ c.data.ensures c.in-Enum.is, not-false _ c.if-not-d.false) shows_none
 
-pub returns-else-d-2 : goal.returns-else-d-2
+pub returns-then-not-d-2 : goal.returns-then-not-d-2
 unfolding internal_type
-returns-else-d-2 c = λ env h. shows_as (ap (internal_type env c.args.n) (sym (c.type_at-t.ensures env c.args.plan.now c.args.index.now h) ∙ type_struct _ c.in-Struct.is) ∙ struct_intern env c.args.n _ _ c.if-d-2.false) (c.struct_type.ensures env c.args.index.now h)
+returns-then-not-d-2 c = λ v.
+    let struct = type_as _ c.data.ensures c.in-Struct.is in
+    let intern = not-true _ c.if-not-d-2.true in
+    rw (struct, intern) (rw (intern, rw struct at c.fields.ensures) at c.struct_type.ensures)
+
+pub returns-else-not-d-2 : goal.returns-else-not-d-2
+unfolding internal_type
+returns-else-not-d-2 c = λ v. rw (type_as _ c.data.ensures c.in-Struct.is, not-false _ c.if-not-d-2.false) shows_none

@@ -1,15 +1,13 @@
-use Rattle.std.specs.Prelude.{◌≡◌, ℕ, suc, ◌-◌, List, length, drop}
-use Rattle.plan.specs.Plan.{Environment}
-use Rattle.sema.specs.Holds.{Holds}
-use Rattle.ctx_trait.proofs.Shown.{Left}
+use Rattle.std.specs.Prelude.{◌≡◌, List, suc, drop}
 use Rattle.plan.specs.Plan.{Field, named}
-use Rattle.sema.specs.Fields.{fields_held}
+use Rattle.view.specs.Buffers.{env_of}
 use Rattle.codegen.specs.Items.{named_fields}
+use Rattle.emits.specs.Sinks.{Left}
+use Rattle.sema.specs.Fields.{fields_read}
 use Rattle.emit_items.specs.Parts.{depth}
 use Rattle.emit_items.proofs.internal_types.named_fields.Given as goal
 
 abbrev pub invariant-loop-i : goal.invariant-loop-i
-invariant-loop-i l = (((env : Environment) (index : List ℕ) (fs : List Field) → Holds env l.plan l.words l.rows l.tables index → fields_held l.words l.rows l.f ≡ named fs → Left l.end env 0 (named_fields l.allow (suc (depth l.allow)) fs) l.initial.out l.initial.at (named_fields l.allow (suc (depth l.allow)) (drop l.i fs)) l.out l.at) × (length l.out ≡ length l.initial.out))
-
-abbrev pub decreases-loop-i : goal.decreases-loop-i
-decreases-loop-i l = l.n - l.i
+invariant-loop-i l =
+    (fs : List Field) → fields_read l.plan l.f ≡ named fs
+    → Left (env_of l.plan) 0 (named_fields l.allow (suc (depth l.allow)) fs) l.initial.w (named_fields l.allow (suc (depth l.allow)) (drop l.i fs)) l.w

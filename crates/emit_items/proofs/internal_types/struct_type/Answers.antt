@@ -1,10 +1,13 @@
-use mathlib.Core.Path.{sym, ap}
-use Rattle.ctx_trait.proofs.Shown.{shows_as, ◌⟫ₛ◌}
-use Rattle.emits.specs.Pieces.{shows_fix, shows_sym}
-use Rattle.codegen.specs.Items.{type_head, struct_type}
-use Rattle.view.specs.Told.{declared_told}
+use Rattle.std.specs.Prelude.{◌≡◌}
+use Rattle.std.proofs.Common.{arith}
+use Rattle.std.proofs.lemmas.Grind.{common_steps}
+use Rattle.codegen.specs.Items.{is_unit, struct_type}
+use Rattle.emits.specs.Sinks.{shows_fix, shows_sym, ◌⟫ₛ◌}
+use Rattle.sema.specs.Fields.{fields_read}
 use Rattle.emit_items.proofs.internal_types.struct_type.Goals as goal
 
 pub returns : goal.returns
 unfolding struct_type
-returns c = λ env index h. shows_as (sym (ap (type_head (declared_told c.args.d)) (c.is_unit-unit.ensures _))) (c.type_head-at.ensures env index h) ⟫ₛ shows_fix c.put_bytes-at.ensures (shows_sym (c.put_sym-at.ensures env index h) (c.generate_fields-at.ensures env index h ⟫ₛ c.struct_end.ensures env _))
+returns c =
+    let copy : c.match-matches.matches ≡ is_unit (fields_read c.args.plan.now c.args.f) = grind (arith, common_steps) in
+    rw (← copy) (c.type_head.ensures ⟫ₛ shows_fix c.put_bytes.ensures (shows_sym c.put_text.ensures (c.generate_fields.ensures ⟫ₛ c.struct_end.ensures _ _)))

@@ -1,20 +1,19 @@
-use Prim.Native.Nat.{◌-◌}
-use mathlib.Core.Path.{sym, ◌∙◌}
-use native.Mathlib.Omega.{arith}
+use Rattle.std.proofs.Common.{◌-◌, ◌∙◌, sym, arith, refl}
 use Rattle.exists.proofs.Sorts.{count_start, count_other, count_same, count_later, count_end}
 use Rattle.exists.proofs.lengths.scan_fields.Goals as goal
+use Rattle.exists.proofs.lengths.scan_fields.Goals.{then-word-n+else-left-eq0, else-word-n}
 
 pub loop-r-init : goal.loop-r-init
-loop-r-init c = λ plan. count_start plan c.args.words.now c.args.rows.now c.args.tables.now c.args.n c.args.k _ _ c.bound-r.ensures.0 c.next_bound-end.ensures.0
-
-pub loop-r-preserved-then-word-n : goal.loop-r-preserved-then-word-n
-loop-r-preserved-then-word-n c = λ plan. sym (count_other plan c.args.words.now c.args.rows.now c.args.tables.now c.args.n c.loop-r.r c.next_bound-end.result c.loop-r.left c.loop-r-test.true (λ q. c.if-word-n.true (c.word.ensures ∙ q))) ∙ c.loop-r.invariant plan
+loop-r-init c = count_start c.args.plan.now.bytes.now c.args.plan.now.words.now c.args.plan.now.rows.now c.args.plan.now.tables.now c.args.n c.args.k _ _ c.first_row-r.ensures.0 refl
 
 pub returns-then-left-eq0 : goal.returns-then-left-eq0
-returns-then-left-eq0 c = λ plan. c.variant_field_count.ensures ∙ count_same plan c.args.words.now c.args.rows.now c.args.tables.now c.args.n c.loop-r.r c.next_bound-end.result c.loop-r.left c.loop-r-test.true (sym c.word.ensures ∙ c.if-word-n.false) c.if-left-eq0.true ∙ c.loop-r.invariant plan
+returns-then-left-eq0 c = c.variant_field_count.ensures ∙ count_same c.args.plan.now.words.now c.args.plan.now.rows.now c.args.n c.loop-r.r _ c.loop-r.left (omega arith) (sym c.word.ensures ∙ c.if-word-n.true) c.if-left-eq0.true ∙ c.loop-r.invariant
 
 pub loop-r-preserved : goal.loop-r-preserved
-loop-r-preserved c = λ plan. sym (count_later plan c.args.words.now c.args.rows.now c.args.tables.now c.args.n c.loop-r.r c.next_bound-end.result c.loop-r.left c.loop-r-test.true (sym c.word.ensures ∙ c.if-word-n.false) (c.loop-r.left - 1) (omega arith)) ∙ c.loop-r.invariant plan
+loop-r-preserved c = elim c.if-word-n.branch [
+  | then-word-n+else-left-eq0 w ↦ rw w.left-is (sym (count_later c.args.plan.now.words.now c.args.plan.now.rows.now c.args.n c.loop-r.r _ c.loop-r.left (omega arith) (sym c.word.ensures ∙ w.if-word-n.true) (c.loop-r.left - 1) (omega arith)) ∙ c.loop-r.invariant)
+  | else-word-n w ↦ rw w.left-is (sym (count_other c.args.plan.now.words.now c.args.plan.now.rows.now c.args.n c.loop-r.r _ c.loop-r.left (omega arith) (λ q. w.if-word-n.false (c.word.ensures ∙ q))) ∙ c.loop-r.invariant)
+]
 
 pub returns : goal.returns
-returns c = λ plan. count_end plan c.args.words.now c.args.rows.now c.args.tables.now c.args.n c.loop-r.r c.next_bound-end.result c.loop-r.left c.loop-r-test.false ∙ c.loop-r.invariant plan
+returns c = count_end c.args.plan.now.words.now c.args.plan.now.rows.now c.args.n c.loop-r.r _ c.loop-r.left (omega arith) ∙ c.loop-r.invariant

@@ -1,17 +1,14 @@
-use mathlib.Core.Path.{refl, ◌∙◌}
-use native.Mathlib.Omega.{arith}
+use Rattle.std.proofs.Common.{◌≡◌, ◌+◌, ◌*◌, arith}
+use Rattle.view.specs.Buffers.{plan_of}
 use Rattle.faults.specs.Accepted.{passes_fit}
-use Rattle.faults.specs.Terms.{terms_start, terms_next, sheet_done, plan_terms}
+use Rattle.faults.specs.Terms.{terms_start, terms_next, sheet_done}
 use Rattle.faults.proofs.sheet.put_sheet.Goals as goal
 
-pub loop-t-init : goal.loop-t-init
-loop-t-init c = (refl, λ p plan q f. terms_start plan q (passes_fit p f))
+pub loop-i-init : goal.loop-i-init
+loop-i-init c = λ f. terms_start (passes_fit (plan_of c.args.plan.now) f)
 
-pub returns-then-count-t-le3 : goal.returns-then-count-t-le3
-returns-then-count-t-le3 c = λ p plan q f. sheet_done (c.loop-t.invariant.1 p plan q f) (omega arith) c.put_bytes-at.ensures
-
-pub loop-t-preserved : goal.loop-t-preserved
-loop-t-preserved c = (c.put_term-at.auto.out ∙ c.loop-t.invariant.0, λ p plan q f. terms_next (c.loop-t.invariant.1 p plan q f) (omega arith) (plan_terms plan q) c.put_term-at.ensures)
+pub loop-i-preserved : goal.loop-i-preserved
+loop-i-preserved c = λ f. let next : 7 + 3 * c.loop-i.i + 3 ≡ 7 + 3 * (c.loop-i.i + 1) = omega arith in rw next at (terms_next (c.loop-i.invariant f) (omega arith) c.put_term.ensures)
 
 pub returns : goal.returns
-returns c = λ p plan q f. sheet_done (c.loop-t.invariant.1 p plan q f) (omega arith) c.put_bytes-at.ensures
+returns c = λ f. sheet_done (c.loop-i.invariant f) (omega arith) c.put_bytes.ensures

@@ -1,19 +1,32 @@
-use mathlib.Core.Path.{sym, ◌∙◌}
-use native.Mathlib.Omega.{arith}
-use Rattle.layout.specs.View.{cut}
+use Rattle.std.proofs.Common.{sym, ◌∙◌}
+use Rattle.view.specs.Buffers.{words_of, env_of}
 use Rattle.emits.specs.Marks.{set_of}
-use Rattle.expr_faults.proofs.Laws.{fresh_known, fresh_latest}
 use Rattle.row_faults.proofs.Laws.{ready_fresh, own_none, own_constant, own_asked}
 use Rattle.row_faults.proofs.matches.name_own.Goals as goal
 
+pub uses_own-found-requires : goal.uses_own-found-requires
+uses_own-found-requires c = c.raise.ensures c.requires.latest
+
 pub returns-then-not-bind_patterns : goal.returns-then-not-bind_patterns
-returns-then-not-bind_patterns c = let same = c.bind_patterns.ensures.1 (c.if-not-bind_patterns.true) in (c.bind_patterns.ensures.0, rw same c.requires, record { is = λ env x l. own_none _ (set_of c.args.bound.now) c.args.q (cut c.args.words.now c.args.rows.now c.args.r) (sym c.bind_patterns.ensures.0 ∙ same) })
+returns-then-not-bind_patterns c = let same = c.bind_patterns.ensures.same c.if-not-bind_patterns.true in record {
+  names = c.bind_patterns.ensures.names;
+  ready = rw same c.requires;
+  found = record { is = λ l. own_none _ (set_of c.args.bound.now) c.args.q (words_of c.args.bindings.now.plan.now c.args.r) (sym c.bind_patterns.ensures.names ∙ same) };
+}
 
 pub returns-then-is_constant : goal.returns-then-is_constant
-returns-then-is_constant c = (c.bind_patterns.ensures.0, ready_fresh (c.raise-fresh.ensures c.requires.latest), record { is = λ env x l. own_constant _ (set_of c.args.bound.now) c.args.q (cut c.args.words.now c.args.rows.now c.args.r) (sym c.is_constant.ensures ∙ c.if-is_constant.true) })
-
-pub expr_holds-found-requires : goal.expr_holds-found-requires
-expr_holds-found-requires c = let f = c.raise-fresh.ensures c.requires.latest in (omega (arith, f.below 0), f.room)
+returns-then-is_constant c = record {
+  names = c.bind_patterns.ensures.names;
+  ready = ready_fresh (c.raise.ensures c.requires.latest);
+  found = record { is = λ l. own_constant _ (set_of c.args.bound.now) c.args.q (words_of c.args.bindings.now.plan.now c.args.r) (sym c.is_constant.ensures ∙ c.if-is_constant.true) };
+}
 
 pub returns : goal.returns
-returns c = let f = c.raise-fresh.ensures c.requires.latest in (c.bind_patterns.ensures.0, ready_fresh (c.raise-next.ensures (c.expr_holds-found.ensures.latest (fresh_latest f))), record { is = λ env x l. (c.expr_holds-found.ensures.known env x l (fresh_known f)).0 ∙ rw c.bind_patterns.ensures.0 (own_asked _ (set_of c.args.bound.now) c.args.q (cut c.args.words.now c.args.rows.now c.args.r) env (sym c.is_constant.ensures ∙ c.if-is_constant.false)) })
+returns c = record {
+  names = c.bind_patterns.ensures.names;
+  ready = ready_fresh (c.raise-2.ensures c.uses_own-found.ensures.latest);
+  found = record {
+    is = λ l. c.uses_own-found.ensures.found.is l
+        ∙ rw c.bind_patterns.ensures.names (own_asked _ (set_of c.args.bound.now) c.args.q (words_of c.args.bindings.now.plan.now c.args.r) (env_of c.args.bindings.now.plan.now) (sym c.is_constant.ensures ∙ c.if-is_constant.false));
+  };
+}

@@ -10,9 +10,3 @@ invariant-loop-rest l = (1 ≤ l.place) × (l.place ≤ 40) × (l.rest < 10 ^ l.
 
 abbrev pub decreases-loop-rest : goal.decreases-loop-rest
 decreases-loop-rest l = l.place
-
-abbrev pub invariant-loop-rest-2 : goal.invariant-loop-rest-2
-invariant-loop-rest-2 l = (1 ≤ l.place) × (l.place ≤ 40) × (l.rest < 10 ^ l.place) × (length l.text ≡ 40) × Filling (decimal l.initial.rest) l.initial.place l.initial.text (decimal l.rest) l.place l.text
-
-abbrev pub decreases-loop-rest-2 : goal.decreases-loop-rest-2
-decreases-loop-rest-2 l = l.place

@@ -1,24 +1,16 @@
+use mathlib.Core.Path.{◌≡◌, ◌∙◌}
+use Prim.Native.Nat.{◌+◌, ◌-◌}
 use native.Mathlib.Omega.{arith}
-use Rattle.text.specs.SinkLaws.{puts_past, stores_none, stores_length, stores_more, stores_all, length_spaces, space_at}
+use Rattle.std.proofs.Common.{length-drop, length-take-le}
+use Rattle.text.specs.Sink.{spaces}
+use Rattle.text.specs.SinkLaws.{puts_past, length_spaces}
+use Rattle.text.proofs.Copies.{puts_part, taken_spaces}
 use Rattle.text.proofs.sink.put_spaces.Goals as goal
 
-pub returns-then-end-at : goal.returns-then-end-at
-returns-then-end-at c = puts_past (omega arith) (omega arith)
-
-pub returns-then-end-at-2 : goal.returns-then-end-at-2
-returns-then-end-at-2 c = puts_past (rw length_spaces (omega arith)) (omega arith)
-
-pub loop-i-init : goal.loop-i-init
-loop-i-init c = (omega arith, c.stored-count.ensures, stores_none)
-
-pub bounds-out-at : goal.bounds-out-at
-bounds-out-at c = omega (arith, stores_length c.loop-i.invariant.2)
-
-pub loop-i-preserved : goal.loop-i-preserved
-loop-i-preserved c = (omega arith, omega arith, stores_more c.loop-i.invariant.2 (rw length_spaces (omega arith)) (space_at c.args.n c.loop-i.i (omega arith)))
-
-pub shape_of-out : goal.shape_of-out
-shape_of-out c = stores_length c.loop-i.invariant.2
+pub returns-then-saturating_sub-n : goal.returns-then-saturating_sub-n
+returns-then-saturating_sub-n c = puts_past (rw length_spaces (omega arith)) (omega arith)
 
 pub returns : goal.returns
-returns c = stores_all c.loop-i.invariant.2 (omega arith) (rw length_spaces (omega arith)) (rw length_spaces)
+returns c =
+    let k : c.min-first.result + c.stored-count.result - c.min-first.result ≡ c.stored-count.result = omega arith in
+    puts_part (spaces c.args.n) c.args.at _ (length_spaces c.args.n) (omega arith) c.min-first.ensures (k ∙ c.stored-count.ensures) (c.fill.ensures.after (λ y h. h) ∙ taken_spaces c.args.n _ _ (length-take-le _ _ (rw length-drop (omega arith))) (omega arith))

@@ -1,0 +1,74 @@
+// Tests of each row of a table, and of each generated term.
+ghost use Rattle.std.specs.Prelude.{◌≡◌, ◌+◌, ◌-◌, ◌*◌, ◌/◌, ◌^◌, ◌<◌, Bool, List, ℕ, ltb, length, drop};
+ghost use Rattle.plan.specs.Plan.{Generated};
+ghost use Rattle.plan.specs.Refusal.{every};
+ghost use Rattle.view.specs.Buffers.{words_of, rows_of, plan_of};
+ghost use Rattle.checks.specs.Tests.{Tests, tables_at, generated_of};
+
+use view::buffers::Plan;
+
+// The tables of the environment by their numbers; those of the generated terms follow.
+pub const FILES: usize = 1;
+
+pub const SYMS: usize = 2;
+
+pub const POSS: usize = 3;
+
+pub const TYPES: usize = 4;
+
+pub const VARIANTS: usize = 5;
+
+pub const TERMS: usize = 6;
+
+const GENERATED: usize = 7;
+
+// The tables of a generated term: its number, its bindings and its block.
+#[derive(Clone, Copy)]
+pub struct GeneratedTables {
+    pub term: usize,
+    pub bindings: usize,
+    pub block: usize,
+}
+
+// The tables of generated term i: three each.
+fn generated_tables(i: usize) -> GeneratedTables
+    requires { i < 2 ^ 62 }
+    ensures { result ≡ tables_at i }
+{
+    let term = GENERATED + 3 * i;
+    GeneratedTables {
+        term,
+        bindings: term + 1,
+        block: term + 2,
+    }
+}
+
+// How many generated terms there are: `tables` has an entry more than there are tables.
+#[tactic(auto, using(crate::proofs::Tests::terms_count))]
+pub fn generated_count(plan: &Plan<'_>) -> usize
+    ensures count { result ≡ length (plan_of plan.now).generated }
+    ensures few { result < 2 ^ 62 }
+{
+    plan.tables.len().saturating_sub(8) / 3
+}
+
+// Whether each generated term passes a test.
+pub fn all_generated<F: Fn(GeneratedTables) -> bool>(plan: &Plan<'_>, test: F) -> bool
+    requires { F.IsAlwaysCallable test }
+    ensures { (P : Generated → Bool) → Tests (F.post test) (generated_of plan.now) P → result ≡ every P (plan_of plan.now).generated }
+{
+    for i in 0..generated_count(plan) {
+        if !test(generated_tables(i)) {
+            return false;
+        }
+    }
+    true
+}
+
+// Whether each row of table t passes a test.
+pub fn all_rows<F: Fn(usize) -> bool>(plan: &Plan<'_>, t: usize, test: F) -> bool
+    requires { F.IsAlwaysCallable test }
+    ensures { (P : List ℕ → Bool) → Tests (F.post test) (words_of plan.now) P → result ≡ every P (rows_of plan.now t) }
+{
+    (plan.first_row(t)..plan.end_row(t)).all(test)
+}

@@ -1,0 +1,39 @@
+// The plan's own texts, put into the sink.
+ghost use Rattle.std.specs.Prelude.{◌≡◌};
+ghost use Rattle.literal.specs.Quote.{quoted};
+ghost use Rattle.text.specs.Writes.{Writes};
+ghost use Rattle.view.specs.Buffers.{env_of};
+ghost use Rattle.sema.specs.Texts.{text_in};
+
+use literal::quote::put_quoted;
+use text::sink::Sink;
+use view::buffers::Plan;
+
+// What has texts of its own, with the number of its table.
+#[derive(Clone, Copy)]
+pub enum Text {
+    File = 1,
+    Sym = 2,
+    Pos = 3,
+}
+
+impl Text {
+    // The bytes of the text n, which the plan has.
+    fn bytes<'a>(self, plan: &Plan<'a>, n: usize) -> &'a [u8]
+        ensures { result.now ≡ text_in (env_of plan.now) self n }
+    {
+        plan.text_at(plan.row_at(self as usize, n))
+    }
+}
+
+pub fn put_text(w: &mut Sink<'_>, plan: &Plan<'_>, of: Text, n: usize)
+    ensures { Writes (text_in (env_of plan.now) of n) w.old w.new }
+{
+    w.put_bytes(of.bytes(plan, n));
+}
+
+pub fn put_quoted_text(w: &mut Sink<'_>, plan: &Plan<'_>, of: Text, n: usize)
+    ensures { Writes (quoted (text_in (env_of plan.now) of n)) w.old w.new }
+{
+    put_quoted(w, of.bytes(plan, n));
+}

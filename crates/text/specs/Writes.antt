@@ -1,0 +1,31 @@
+-- `Puts` of a `Sink` of the code: the buffer, the position and one more than the room stand in one value. Assumes nothing.
+use Rattle.std.specs.Prelude.{ℕ, ◌-◌, ◌≡◌, refl, List, [], ◌++◌, length, take, drop}
+use Rattle.std.proofs.Common.{◌∙◌, subst}
+use Rattle.text.specs.Sink.{Puts}
+use Rattle.text.specs.SinkLaws.{◌then◌, puts_nil}
+use Rattle.text.specs.Filled.{Filled, puts_filled}
+use Rattle.text.specs.declared.sink.Sink.{Sink}
+
+-- the text t more; the lent buffer, the room and the count of odd literals are the same
+pub record Writes (t : List ℕ) (w w' : Sink) : Type 0 where
+  pub buffer : w'.out.ghost_name ≡ w.out.ghost_name
+  pub end : w'.end ≡ w.end
+  pub odd : w'.odd ≡ w.odd
+  pub puts : Puts w.end t w.out.now w.at w'.out.now w'.at
+
+-- the empty text
+pub writes_nil : {w : Sink} → Writes [] w w
+writes_nil = record { buffer = refl; end = refl; odd = refl; puts = puts_nil }
+
+-- one text after another
+pub writes_then : {s t : List ℕ} {w w₁ w₂ : Sink} → Writes s w w₁ → Writes t w₁ w₂ → Writes (s ++ t) w w₂
+writes_then {s} {t} {w} {w₁} {w₂} p q = record {
+  buffer = q.buffer ∙ p.buffer;
+  end = q.end ∙ p.end;
+  odd = q.odd ∙ p.odd;
+  puts = p.puts then (subst (λ (e : ℕ). Puts e t w₁.out.now w₁.at w₂.out.now w₂.at) p.end q.puts);
+}
+
+-- the text that was filled in before an array's end
+pub writes_filled : {t : List ℕ} {first' : ℕ} {a a' : List ℕ} {w w' : Sink} (n : ℕ) → length a ≡ n → Filled t n a first' a' → Writes (take (n - first') (drop first' a')) w w' → Writes t w w'
+writes_filled n l p q = record { buffer = q.buffer; end = q.end; odd = q.odd; puts = puts_filled n l p q.puts }
