@@ -1,5 +1,7 @@
-pub mod Middle
+pub mod OwnLaws
 pub mod Own
+pub mod Middle
 pub mod Row
+pub mod Nesting
 pub mod Stack
 pub mod Loop

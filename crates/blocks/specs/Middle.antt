@@ -1,8 +1,8 @@
 -- The walk over the rows from the middle: what is left to write, where a frame closes and where a row writes its own. Assumes nothing.
-use Rattle.std.specs.Prelude.{◌≡◌, Bool, true, false, cond, ◌&&◌, ℕ, zero, suc, ◌+◌, ◌≤◌, ◌<◌, leb}
+use Rattle.std.specs.Prelude.{◌≡◌, Bool, cond, ◌&&◌, ℕ, suc, ◌+◌, ◌≤◌}
 use Rattle.std.proofs.Math.Path.{refl, sym}
 use Rattle.std.proofs.Common.{ap, ◌∙◌, add-zero, arith}
-use Rattle.std.proofs.Math.Option.{Option, some, none}
+use Rattle.std.proofs.Math.Option.{Option}
 use mathlib.Core.List.{List, [], ◌∷◌, ◌++◌, append_assoc}
 use Rattle.std.proofs.Math.Nat.{add_assoc}
 use Rattle.std.proofs.Math.ListN.{length, length-append}
@@ -12,7 +12,7 @@ use Rattle.text.specs.SinkLaws.{sets_append}
 use Rattle.plan.specs.Plan.{Environment}
 use Rattle.plan.specs.Row.{Row, level}
 use Rattle.codegen.specs.Writer.{Marks}
-use Rattle.codegen.specs.Block.{Body, Part, Purpose, Own, Frame, State, purpose_of, end_block, closing, left, restored, is_arm_body, numbered, pushed, open_closure, row_parts, after, own, here, splits_here, next, written, walk, block_weight, text_of, odds_of}
+use Rattle.codegen.specs.Block.{Body, Part, Purpose, Frame, State, purpose_of, end_block, closing, left, restored, is_arm_body, numbered, pushed, row_parts, after, own, here, splits_here, next, written, walk, block_weight, text_of, odds_of}
 use Rattle.splitting.specs.Lines.{text_append}
 use Rattle.splitting.specs.Simulation.{odds_append}
 use Rattle.splitting.specs.Marks.{with_refs}
@@ -20,7 +20,7 @@ use Rattle.splitting.specs.Continue.{NotDeeper, Inside, inside_left}
 use Rattle.emits.specs.Place.{Place, over, place, place_over, count_over, place_cases}
 use Rattle.emits.specs.Place as emits
 use Rattle.emits.specs.Rows.{run_parts, PartsEmit, run_row, run_walk, RowEmits, WalkEmits, Emitting, emitting_row}
-use Rattle.step_parts.specs.Leads.{Leads}
+use Rattle.body.specs.Leads.{Leads}
 
 -- where the bindings of b have names, m closures are numbered and the frames fs are open; the marks of references are in the place
 unfoldable pub standing : Marks → ℕ → List Frame → State

@@ -1,13 +1,12 @@
 -- What a row writes, in two: a step's `bind_order`, then its check or the arm. Assumes nothing.
-use Rattle.std.specs.Prelude.{ℕ, ◌-◌, ◌≡◌, refl, Bool, true, false, cond, List, [], ◌∷◌, ◌++◌, ltb, drop}
-use Rattle.std.proofs.Common.{sym, ap, ◌∙◌}
-use Rattle.std.proofs.Math.Option.{Option, none}
-use Rattle.plan.specs.Row.{Row, step, arm, level}
+use Rattle.std.specs.Prelude.{ℕ, ◌≡◌, refl, List, [], ◌++◌}
+use Rattle.std.proofs.Math.Option.{none}
+use Rattle.plan.specs.Row.{Row, step, arm}
 use Rattle.codegen.specs.Writer.{Marks}
 use Rattle.codegen.specs.Block.{Body, Purpose, Own, lets, returning, emit_check, emit_arm, own}
-use Rattle.rows.specs.View.{nth, wide_at, step_made, arm_made, patterns_in, block_of}
-use Rattle.view.specs.Told.{control_flow_of, constraint_of}
-use Rattle.steps.specs.OwnLaws.{check_outside, arm_outside}
+use Rattle.rows.specs.View.{nth, step_made, block_of}
+use Rattle.view.specs.BlockRows.{step_is}
+use Rattle.blocks.specs.OwnLaws.{check_outside, arm_outside}
 
 unfoldable pub bind_order : Row → List ℕ
 bind_order (step l k bs) = bs
@@ -35,27 +34,7 @@ unfolding own joined check bind_order lets
 own_joined c refs bound p (step l k bs) rs = refl
 own_joined c refs bound p (arm l k bs) rs = refl
 
--- ROWS IN THE BUFFERS
-
-abbrev of_test : (ws : List ℕ) (b : Bool) → Row
-of_test ws b = cond b (step (nth ws 0) (step_made (nth ws 1) (nth ws 2) (wide_at ws 3)) (drop 7 ws)) (arm (nth ws 0) (arm_made (nth ws 1 - 4) (nth ws 2) (wide_at ws 3)) (patterns_in (drop 7 ws)))
-
-pub level_is : (ws : List ℕ) → level (block_of ws) ≡ nth ws 0
-unfolding block_of level
-level_is ws = by_test (ltb (nth ws 1) 4) where
-  by_test : (b : Bool) → level (of_test ws b) ≡ nth ws 0
-  by_test true = refl
-  by_test false = refl
-
-pub step_is : (ws : List ℕ) → ltb (nth ws 1) 4 ≡ true → block_of ws ≡ step (nth ws 0) (control_flow_of ws) (drop 7 ws)
-unfolding block_of
-step_is ws h = rw h refl
-
 -- a `return` opens no frame
 pub return_opens : (c : Body) (refs bound : Marks) (p : Purpose) (ws : List ℕ) (rs : List Row) → nth ws 1 ≡ 3 → (own c refs bound p (block_of ws) rs).frame ≡ none
 unfolding own emit_check returning step_made
 return_opens c refs bound p ws rs h = rw (step_is ws (rw h refl), h)
-
-pub arm_is : (ws : List ℕ) → ltb (nth ws 1) 4 ≡ false → block_of ws ≡ arm (nth ws 0) (constraint_of ws) (patterns_in (drop 7 ws))
-unfolding block_of
-arm_is ws h = rw h refl

@@ -1,146 +1,135 @@
 -- What the functions for one row of a block do. Assumes nothing.
-use Rattle.std.specs.Prelude.{ℕ, suc, ◌+◌, ◌-◌, ◌<◌, ◌≡◌, Bool, true, false, cond, ◌&&◌, ltb, length, drop}
+use Rattle.std.specs.Prelude as code
+use Rattle.std.specs.Prelude.{ℕ, suc, ◌+◌, ◌<◌, ◌≡◌, Bool, true, false, ◌&&◌, ltb, length, List, get_or, drop}
 use Rattle.std.proofs.Math.Path.{refl, sym}
-use Rattle.std.proofs.Common.{ap, subst, ◌∙◌, add-one, arith}
-use Rattle.std.proofs.Math.Option.{Option, some}
-use mathlib.Core.List.{List, [], ◌∷◌, ◌++◌, map, append_assoc}
-use Rattle.text.specs.Sink.{Puts}
-use Rattle.plan.specs.Plan.{Environment}
-use Rattle.plan.specs.Row.{Row, step, arm, level}
+use Rattle.std.proofs.Common.{subst, ◌∙◌, add-one, append_assoc, arith}
+use Rattle.std.proofs.Math.Option.{Option, none}
+use Rattle.text.specs.Writes.{Writes}
+use Rattle.text.specs.declared.sink.Sink.{Sink}
+use Rattle.plan.specs.Row.{Row, level}
 use Rattle.codegen.specs.Writer.{Marks}
-use Rattle.codegen.specs.ReturnKind.{ReturnKind}
-use Rattle.codegen.specs.Block.{Body, Purpose, Own, Part, Line, Frame, closures, place, purpose_of, lets, emit_check, emit_arm, own, is_arm_body, open_closure, row_parts, block_weight}
+use Rattle.codegen.specs.Block.{Own, Purpose, Frame, lets, emit_check, emit_arm, own, is_arm_body, row_parts, block_weight}
 use Rattle.rows.specs.View.{nth, patterns_in, block_of}
-use Rattle.layout.specs.View.{cut, cuts}
 use Rattle.view.specs.Told.{control_flow_of, constraint_of}
-use Rattle.emits.specs.Rows.{PartsEmit}
+use Rattle.emits.specs.Marks.{set_of}
 use Rattle.context.specs.Closing.{opening_text}
-use Rattle.context.specs.Laws.{parts_puts, opening_is, opening_odds}
-use Rattle.step_parts.specs.Leads.{Leads, ◌⟫ₗ◌, leads_none, leads_same, leads_parts}
-use Rattle.step_parts.specs.Facts.{Facts}
-use Rattle.blocks.specs.Own.{bind_order, check, check_restores, joined, own_joined, step_is, arm_is}
-use Rattle.blocks.specs.Middle.{Owned}
-
--- what is known of a generated term whose tables are t, t + 1 and t + 2, and of how it is written
-pub record Known (env : Environment) (c : Body) (plan words rows tables index : List ℕ) (t : ℕ) (log : Bool) (ret_kind : ReturnKind) (term_name : ℕ) : Type 0 where
-  pub facts : Facts env c plan words rows tables index t
-  pub logs : c.log ≡ log
-  pub kind : c.ret_kind ≡ ret_kind
-  pub name : c.term_name ≡ term_name
-
--- the rows from row r up to row `last`
-abbrev pub rows_from : List ℕ → List ℕ → ℕ → ℕ → List Row
-rows_from words rows last r = map block_of (cuts words rows r (last - r))
+use Rattle.context.specs.Laws.{opening_is, opening_odds}
+use Rattle.context.specs.declared.body_context.BodyContext.{BodyContext}
+use Rattle.view.specs.BlockRows.{step_is, arm_is}
+use Rattle.row_frames.specs.Scopes.{Saved}
+use Rattle.body.specs.declared.Body.{Body}
+use Rattle.body.specs.Told.{env_in, row_in, rows_in, body_told, splits_above, Fits, StandsIn}
+use Rattle.body.specs.Leads.{place_append}
+use Rattle.body.specs.Lines.{Leads, ◌⟫ₗ◌, leads_same, leads_text, lines_none}
+use Rattle.body.specs.Own.{WritesOwn, lets_own}
+use Rattle.blocks.specs.Own.{bind_order, check, check_restores, joined, own_joined}
 
 -- the weights that split, in code: none, or those above a threshold
-pub record Splitting (sp : ℕ → Bool) (split : Bool) (threshold : ℕ) : Type 0 where
-  pub is : (w : ℕ) → sp w ≡ split && ltb threshold w
+pub record Splitting (sp : ℕ → Bool) (threshold : code.Option ℕ) : Type 0 where
+  pub is : (w : ℕ) → sp w ≡ splits_above threshold w
 
--- the `bind_order` of row x is written
-pub record Binds (e : ℕ) (plan words rows tables index : List ℕ) (t depth : ℕ) (x : Row) (o : List ℕ) (at n : ℕ) (q b : Marks) (o' : List ℕ) (at' n' : ℕ) (q' b' : Marks) : Type 0 where
-  pub leads : (env : Environment) (c : Body) (i : ℕ) (fs : List Frame) → Facts env c plan words rows tables index t → depth ≡ closures fs + suc (length fs)
-      → Leads e env (λ u. place (some i) fs (lets c (bind_order x) u b).lines) (λ u. (lets c (bind_order x) u b).refs) o at n q o' at' n' q'
-  pub bound : (c : Body) (u : Marks) → b' ≡ (lets c (bind_order x) u b).bound
+-- of row r, inside a frame of the purpose p, where the bindings of `bound` have names: its lets; its check, or the arm that it is; both
+abbrev pub lets_in : Body → Marks → ℕ → Marks → Own
+lets_in b bound r = λ q. lets_own (lets (body_told b) (bind_order (block_of (row_in b r))) q bound)
 
--- the check of row x, or the arm that it is, where the rows rs stand after it
-pub record Checks (e : ℕ) (plan words rows tables index : List ℕ) (t depth : ℕ) (in_closure log : Bool) (ret_kind : ReturnKind) (term_name : ℕ) (p : Purpose) (x : Row) (rs : List Row)
-    (o : List ℕ) (at n : ℕ) (q b : Marks) (o' : List ℕ) (at' n' : ℕ) (q' b' : Marks) (opens : Option Purpose) : Type 0 where
-  pub leads : (env : Environment) (c : Body) (i : ℕ) (fs : List Frame) → Known env c plan words rows tables index t log ret_kind term_name → depth ≡ closures fs + suc (length fs) → in_closure ≡ ltb 0 (closures fs)
-      → Leads e env (λ u. place (some i) fs (check c u b p x rs).lines) (λ u. (check c u b p x rs).refs) o at n q o' at' n' q'
-  pub frame : (c : Body) (u : Marks) → opens ≡ (check c u b p x rs).frame
-  pub bound : (c : Body) (u : Marks) → b' ≡ (check c u b p x rs).bound
+abbrev pub check_in : Body → Marks → Purpose → ℕ → ℕ → Marks → Own
+check_in b bound p r last = λ q. check (body_told b) q bound p (block_of (row_in b r)) (rows_in b last (r + 1))
 
--- what row x does after its `bind_order`, and the opening of its closure if it splits
-pub record EndsRow (e : ℕ) (plan words rows tables index : List ℕ) (t depth : ℕ) (in_closure log : Bool) (ret_kind : ReturnKind) (term_name : ℕ) (p : Purpose) (split : Bool) (threshold : ℕ) (x : Row) (rs : List Row)
-    (o : List ℕ) (at n : ℕ) (q b : Marks) (o' : List ℕ) (at' n' : ℕ) (q' b' : Marks) (opens : Option Purpose) (splits : Bool) : Type 0 where
-  pub leads : (env : Environment) (c : Body) (i : ℕ) (fs : List Frame) → Known env c plan words rows tables index t log ret_kind term_name → depth ≡ closures fs + suc (length fs) → in_closure ≡ ltb 0 (closures fs)
-      → Leads e env (λ u. place (some i) fs (check c u b p x rs).lines ++ open_closure i fs splits) (λ u. (check c u b p x rs).refs) o at n q o' at' n' q'
-  pub frame : (c : Body) (u : Marks) → opens ≡ (check c u b p x rs).frame
-  pub bound : (c : Body) (u : Marks) → b' ≡ (check c u b p x rs).bound
-  pub weighs : (sp : ℕ → Bool) → Splitting sp split threshold → splits ≡ is_arm_body opens && sp (block_weight (level x) rs)
+abbrev pub own_in : Body → Marks → Purpose → ℕ → ℕ → Marks → Own
+own_in b bound p r last = λ q. own (body_told b) q bound p (block_of (row_in b r)) (rows_in b last (r + 1))
 
--- row x writes its own, and opens its closure if it splits
-pub record WritesRow (e : ℕ) (plan words rows tables index : List ℕ) (t depth : ℕ) (in_closure log : Bool) (ret_kind : ReturnKind) (term_name : ℕ) (p : Purpose) (split : Bool) (threshold : ℕ) (x : Row) (rs : List Row)
-    (o : List ℕ) (at n : ℕ) (q b : Marks) (o' : List ℕ) (at' n' : ℕ) (q' b' : Marks) (opens : Option Purpose) (outside : Marks) (splits : Bool) : Type 0 where
-  pub leads : (env : Environment) (c : Body) (i : ℕ) (fs : List Frame) → Known env c plan words rows tables index t log ret_kind term_name → depth ≡ closures fs + suc (length fs) → in_closure ≡ ltb 0 (closures fs)
-      → Leads e env (λ u. row_parts i fs (own c u b p x rs) splits) (λ u. (own c u b p x rs).refs) o at n q o' at' n' q'
-  pub owned : (c : Body) → Owned c b p x rs opens b' outside
-  pub weighs : (sp : ℕ → Bool) → Splitting sp split threshold → splits ≡ is_arm_body opens && sp (block_weight (level x) rs)
+-- how much the rows below row r weigh
+abbrev pub weight_in : Body → ℕ → ℕ → ℕ
+weight_in b r last = block_weight (level (block_of (row_in b r))) (rows_in b last (r + 1))
 
--- a step's check, and an arm
-module _ (words rows : List ℕ) (r : ℕ) where
-  abbrev row : List ℕ
-  row = cut words rows r
+-- From the sink w and the state s, what a row's `o` says leads to w' and s': its lines, and the opening of its closure if it splits, are
+-- written inside the frames around. Which frame it opens, whether that splits, by its weight, and which bindings have names after it, hold
+-- wherever the writing is.
+pub record WritesRow (b : Body) (o : Marks → Own) (weight : ℕ) (w : Sink) (s : BodyContext) (opens : Option Purpose) (splits : Bool) (w' : Sink) (s' : BodyContext) : Type 0 where
+  pub parts : Fits b → (i : ℕ) (fs : List Frame) → StandsIn s.nesting fs → Leads (env_in b) (λ r. row_parts i fs (o r) splits) (λ r. (o r).refs) w (set_of s.is_ref) w' (set_of s'.is_ref)
+  pub frame : (r : Marks) → opens ≡ (o r).frame
+  pub bound : (r : Marks) → set_of s'.is_bound ≡ (o r).bound
+  pub nesting : s'.nesting ≡ s.nesting
+  pub weighs : (sp : ℕ → Bool) → Splitting sp b.threshold → splits ≡ is_arm_body opens && sp weight
 
-  module _ {e : ℕ} {plan tables index : List ℕ} {t depth : ℕ} {o : List ℕ} {at n : ℕ} {q b : Marks} {o' : List ℕ} {at' n' : ℕ} {q' b' : Marks} where
-    pub step_binds : depth < 4095 → ltb (nth row 1) 4 ≡ true
-        → ((env : Environment) (c : Body) (i : ℕ) (fs : List Frame) → Facts env c plan words rows tables index t → depth ≡ closures fs + suc (length fs) → depth < 4294967296 → Leads e env (λ u. place (some i) fs (lets c (drop 7 row) u b).lines) (λ u. (lets c (drop 7 row) u b).refs) o at n q o' at' n' q')
-        → ((c : Body) (u : Marks) → b' ≡ (lets c (drop 7 row) u b).bound)
-        → Binds e plan words rows tables index t depth (block_of row) o at n q b o' at' n' q' b'
-    unfolding bind_order
-    step_binds g h l y = rw (step_is row h) (record { leads = λ env c i fs k d. l env c i fs k d (omega arith); bound = y })
+-- Row r, inside a frame of the purpose p, writes its own; the bindings that have names where its frame closes are kept at the place `top`.
+pub record RowKept (b : Body) (p : Purpose) (r last : ℕ) (w : Sink) (s : BodyContext) (scopes : List (List Bool)) (top : ℕ) (opens : Option Purpose) (splits : Bool) (w' : Sink) (s' : BodyContext) (scopes' : List (List Bool)) : Type 0 where
+  pub row : WritesRow b (own_in b (set_of s.is_bound) p r last) (weight_in b r last) w s opens splits w' s'
+  pub scope : List Bool
+  pub saved : Saved (nth (row_in b r) 1) scopes top scope scopes'
+  pub outside : (q : Marks) → (own_in b (set_of s.is_bound) p r last q).outside ≡ set_of scope
 
-    pub step_checks : {in_closure log : Bool} {ret_kind : ReturnKind} {term_name : ℕ} {p : Purpose} {rs : List Row} {opens : Option Purpose} → depth < 4095 → ltb (nth row 1) 4 ≡ true
-        → ((env : Environment) (c : Body) (i : ℕ) (fs : List Frame) → Facts env c plan words rows tables index t → c.log ≡ log → c.ret_kind ≡ ret_kind → c.term_name ≡ term_name → depth ≡ closures fs + suc (length fs) → depth < 4294967296 → in_closure ≡ ltb 0 (closures fs)
-        → Leads e env (λ u. place (some i) fs (emit_check c u b (nth row 0) (control_flow_of row) rs).lines) (λ u. (emit_check c u b (nth row 0) (control_flow_of row) rs).refs) o at n q o' at' n' q')
-        → ((c : Body) (u : Marks) → (opens ≡ (emit_check c u b (nth row 0) (control_flow_of row) rs).frame) × (b' ≡ (emit_check c u b (nth row 0) (control_flow_of row) rs).bound))
-        → Checks e plan words rows tables index t depth in_closure log ret_kind term_name p (block_of row) rs o at n q b o' at' n' q' b' opens
-    unfolding check
-    step_checks v h l y = rw (step_is row h) (record { leads = λ env c i fs k d g. l env c i fs k.facts k.logs k.kind k.name d (omega arith) g; frame = λ c u. (y c u).0; bound = λ c u. (y c u).1 })
+-- A STEP AND AN ARM
 
-    pub arm_checks : {in_closure log : Bool} {ret_kind : ReturnKind} {term_name : ℕ} {p : Purpose} {rs : List Row} {opens : Option Purpose} → ltb (nth row 1) 4 ≡ false
-        → ((env : Environment) (c : Body) (i : ℕ) (fs : List Frame) → Facts env c plan words rows tables index t → depth ≡ closures fs + suc (length fs)
-        → Leads e env (λ u. place (some i) fs (emit_arm c u b p (constraint_of row) (patterns_in (drop 7 row))).lines) (λ u. (emit_arm c u b p (constraint_of row) (patterns_in (drop 7 row))).refs) o at n q o' at' n' q')
-        → ((c : Body) (u : Marks) → (opens ≡ (emit_arm c u b p (constraint_of row) (patterns_in (drop 7 row))).frame) × (b' ≡ (emit_arm c u b p (constraint_of row) (patterns_in (drop 7 row))).bound))
-        → Checks e plan words rows tables index t depth in_closure log ret_kind term_name p (block_of row) rs o at n q b o' at' n' q' b' opens
-    unfolding check
-    arm_checks h l y = rw (arm_is row h) (record { leads = λ env c i fs k d g. l env c i fs k.facts d; frame = λ c u. (y c u).0; bound = λ c u. (y c u).1 })
+module _ (b : Body) (r : ℕ) {w : Sink} {s : BodyContext} {w' : Sink} {s' : BodyContext} where
+  pub step_lets : s.nesting.depth < 4095 → ltb (nth (row_in b r) 1) 4 ≡ true
+      → WritesOwn (s.nesting.depth < 4294967296) b (λ q. lets_own (lets (body_told b) (drop 7 (row_in b r)) q (set_of s.is_bound))) w s none w' s'
+      → WritesOwn (Unit {0}) b (lets_in b (set_of s.is_bound) r) w s none w' s'
+  unfolding bind_order
+  step_lets g h u =
+      subst (λ (x : Row). WritesOwn (Unit {0}) b (λ q. lets_own (lets (body_told b) (bind_order x) q (set_of s.is_bound))) w s none w' s') (sym (step_is (row_in b r) h))
+      (record { lines = λ t. u.lines (omega arith); frame = u.frame; bound = u.bound; nesting = u.nesting })
 
-  pub arm_binds : {e : ℕ} {plan tables index : List ℕ} {t depth : ℕ} {o : List ℕ} {at n : ℕ} {q b : Marks} → ltb (nth row 1) 4 ≡ false → Binds e plan words rows tables index t depth (block_of row) o at n q b o at n q b
-  unfolding bind_order lets place
-  arm_binds h = rw (arm_is row h) (record { leads = λ env c i fs k d. leads_none; bound = λ c u. refl })
+  pub step_check : (last : ℕ) (p : Purpose) {opens : Option Purpose} → s.nesting.depth < 4095 → ltb (nth (row_in b r) 1) 4 ≡ true
+      → WritesOwn (s.nesting.depth < 4294967296) b (λ q. emit_check (body_told b) q (set_of s.is_bound) (nth (row_in b r) 0) (control_flow_of (row_in b r)) (rows_in b last (r + 1))) w s opens w' s'
+      → WritesOwn (Unit {0}) b (check_in b (set_of s.is_bound) p r last) w s opens w' s'
+  unfolding check
+  step_check last p {opens} g h u =
+      subst (λ (x : Row). WritesOwn (Unit {0}) b (λ q. check (body_told b) q (set_of s.is_bound) p x (rows_in b last (r + 1))) w s opens w' s') (sym (step_is (row_in b r) h))
+      (record { lines = λ t. u.lines (omega arith); frame = u.frame; bound = u.bound; nesting = u.nesting })
 
--- one after the other
+  pub arm_check : (last : ℕ) (p : Purpose) {opens : Option Purpose} → ltb (nth (row_in b r) 1) 4 ≡ false
+      → WritesOwn (Unit {0}) b (λ q. emit_arm (body_told b) q (set_of s.is_bound) p (constraint_of (row_in b r)) (patterns_in (drop 7 (row_in b r)))) w s opens w' s'
+      → WritesOwn (Unit {0}) b (check_in b (set_of s.is_bound) p r last) w s opens w' s'
+  unfolding check
+  arm_check last p {opens} h u = subst (λ (x : Row). WritesOwn (Unit {0}) b (λ q. check (body_told b) q (set_of s.is_bound) p x (rows_in b last (r + 1))) w s opens w' s') (sym (arm_is (row_in b r) h)) u
 
-place_append : (i : Option ℕ) (fs : List Frame) (ls ms : List Line) → place i fs (ls ++ ms) ≡ place i fs ls ++ place i fs ms
-unfolding place
-place_append i fs [] ms = refl
-place_append i fs (l ∷ ls) ms = rw (place_append i fs ls ms)
+pub arm_lets : (b : Body) (r : ℕ) {w : Sink} {s : BodyContext} → ltb (nth (row_in b r) 1) 4 ≡ false → WritesOwn (Unit {0}) b (lets_in b (set_of s.is_bound) r) w s none w s
+unfolding bind_order lets
+arm_lets b r {w} {s} h =
+    subst (λ (x : Row). WritesOwn (Unit {0}) b (λ q. lets_own (lets (body_told b) (bind_order x) q (set_of s.is_bound))) w s none w s) (sym (arm_is (row_in b r) h))
+    (record { lines = λ t f i fs k. lines_none; frame = λ q. refl; bound = λ q. refl; nesting = refl })
 
-module _ {e : ℕ} {plan words rows tables index : List ℕ} {t depth : ℕ} {in_closure log : Bool} {ret_kind : ReturnKind} {term_name : ℕ} {p : Purpose} {split : Bool} {threshold : ℕ} {x : Row} {rs : List Row}
-    {o : List ℕ} {at n : ℕ} {q b : Marks} {o₁ : List ℕ} {at₁ n₁ : ℕ} {q₁ b₁ : Marks} {o₂ : List ℕ} {at₂ : ℕ} {opens : Option Purpose} where
-  pub ends_row : (splits : Bool)
-      → Checks e plan words rows tables index t depth in_closure log ret_kind term_name p x rs o at n q b o₁ at₁ n₁ q₁ b₁ opens
-      → ((sp : ℕ → Bool) → Splitting sp split threshold → splits ≡ is_arm_body opens && sp (block_weight (level x) rs))
-      → ((env : Environment) (i : ℕ) (fs : List Frame) → depth ≡ closures fs + suc (length fs) → PartsEmit e env (open_closure i fs splits) o₁ at₁ n₁ q₁ o₂ at₂ n₁ q₁)
-      → EndsRow e plan words rows tables index t depth in_closure log ret_kind term_name p split threshold x rs o at n q b o₂ at₂ n₁ q₁ b₁ opens splits
-  ends_row splits v w y = record {
-    leads = λ env c i fs k d g. v.leads env c i fs k d g ⟫ₗ leads_parts (y env i fs d);
-    frame = v.frame;
-    bound = v.bound;
-    weighs = w;
-  }
+-- ONE AFTER THE OTHER
 
-module _ {e : ℕ} {plan words rows tables index : List ℕ} {t depth : ℕ} {in_closure log : Bool} {ret_kind : ReturnKind} {term_name : ℕ} {p : Purpose} {split : Bool} {threshold : ℕ} {x : Row} {rs : List Row}
-    {o : List ℕ} {at n : ℕ} {q b : Marks} {o₁ : List ℕ} {at₁ n₁ : ℕ} {q₁ b₁ : Marks} {o₂ : List ℕ} {at₂ n₂ : ℕ} {q₂ b₂ : Marks} {opens : Option Purpose} {splits : Bool} where
-  pub writes_row : Binds e plan words rows tables index t depth x o at n q b o₁ at₁ n₁ q₁ b₁
-      → EndsRow e plan words rows tables index t depth in_closure log ret_kind term_name p split threshold x rs o₁ at₁ n₁ q₁ b₁ o₂ at₂ n₂ q₂ b₂ opens splits
-      → WritesRow e plan words rows tables index t depth in_closure log ret_kind term_name p split threshold x rs o at n q b o₂ at₂ n₂ q₂ b₂ opens b₁ splits
+-- what is written, then the opening of its closure
+pub ends_row : {b : Body} {o : Marks → Own} {weight : ℕ} {w : Sink} {s : BodyContext} {opens : Option Purpose} {w₁ : Sink} {w' : Sink} {s' : BodyContext} (splits : Bool)
+    → WritesOwn (Unit {0}) b o w s opens w₁ s' → ((sp : ℕ → Bool) → Splitting sp b.threshold → splits ≡ is_arm_body opens && sp weight) → Writes (opening_text (s.nesting.depth + 1) splits) w₁ w'
+    → WritesRow b o weight w s opens splits w' s'
+unfolding row_parts
+ends_row {b} {s = s} splits u v x = record {
+  parts = λ f i fs k. (u.lines tt f i fs k).is ⟫ₗ leads_text (opening_odds i fs splits) (rw (opening_is (env_in b) fs i splits, ← k.depth, ← add-one) x);
+  frame = u.frame;
+  bound = u.bound;
+  nesting = u.nesting;
+  weighs = v;
+}
+
+-- a row's lets, then what comes after them
+module _ {b : Body} (p : Purpose) (r last : ℕ) {w : Sink} {s : BodyContext} {w₁ : Sink} {s₁ : BodyContext} {opens : Option Purpose} {splits : Bool} {w' : Sink} {s' : BodyContext}
+    (u : WritesOwn (Unit {0}) b (lets_in b (set_of s.is_bound) r) w s none w₁ s₁) (v : WritesRow b (check_in b (set_of s₁.is_bound) p r last) (weight_in b r last) w₁ s₁ opens splits w' s') where
+  writes_row : WritesRow b (own_in b (set_of s.is_bound) p r last) (weight_in b r last) w s opens splits w' s'
   unfolding joined row_parts
-  writes_row u v = record {
-    leads = λ env c i fs k d g. leads_same
-        (rw (own_joined c q b p x rs, place_append, append_assoc, ← u.bound c q))
-        (rw (own_joined c q b p x rs, ← u.bound c q))
-        (u.leads env c i fs k.facts d ⟫ₗ v.leads env c i fs k d g);
-    owned = λ c. record {
-      frame = λ r. rw (own_joined c r b p x rs, ← u.bound c r) (sym (v.frame c (lets c (bind_order x) r b).refs));
-      bound = λ r. rw (own_joined c r b p x rs, ← u.bound c r) (sym (v.bound c (lets c (bind_order x) r b).refs));
-      restored = λ r. rw (own_joined c r b p x rs) (check_restores c _ _ p x rs ∙ sym (u.bound c r));
-    };
-    weighs = v.weighs;
-  }
+  writes_row =
+      let c = body_told b in
+      let row = block_of (row_in b r) in
+      let rs = rows_in b last (r + 1) in
+      record {
+        parts = λ f i fs k. leads_same
+            (rw (own_joined c (set_of s.is_ref) (set_of s.is_bound) p row rs, place_append, append_assoc, ← u.bound (set_of s.is_ref)))
+            (rw (own_joined c (set_of s.is_ref) (set_of s.is_bound) p row rs, ← u.bound (set_of s.is_ref)))
+            ((u.lines tt f i fs k).is ⟫ₗ v.parts f i fs (rw u.nesting k));
+        frame = λ q. rw (own_joined c q (set_of s.is_bound) p row rs, ← u.bound q) (v.frame (lets c (bind_order row) q (set_of s.is_bound)).refs);
+        bound = λ q. rw (own_joined c q (set_of s.is_bound) p row rs, ← u.bound q) (v.bound (lets c (bind_order row) q (set_of s.is_bound)).refs);
+        nesting = v.nesting ∙ u.nesting;
+        weighs = v.weighs;
+      }
 
--- the opening of a closure
-pub opens_closure : {e : ℕ} {env : Environment} (i : ℕ) (fs : List Frame) {o : List ℕ} {at n : ℕ} {q : Marks} {o' : List ℕ} {at' : ℕ} (depth : ℕ) (b : Bool) → depth ≡ closures fs + suc (length fs) → Puts e (opening_text (depth + 1) b) o at o' at'
-    → PartsEmit e env (open_closure i fs b) o at n q o' at' n q
-opens_closure {env = env} i fs depth b h p = parts_puts (opening_odds i fs b) (rw (opening_is env fs i b, ← h, ← add-one) p)
+  pub row_kept : {scopes scopes' : List (List Bool)} {top : ℕ} → Saved (nth (row_in b r) 1) scopes top s₁.is_bound scopes' → RowKept b p r last w s scopes top opens splits w' s' scopes'
+  unfolding joined
+  row_kept k = record {
+    row = writes_row;
+    scope = s₁.is_bound;
+    saved = k;
+    outside = λ q. rw (own_joined (body_told b) q (set_of s.is_bound) p (block_of (row_in b r)) (rows_in b last (r + 1))) (check_restores (body_told b) _ _ p (block_of (row_in b r)) (rows_in b last (r + 1)) ∙ sym (u.bound q));
+  }

@@ -1,181 +1,95 @@
 // What one row of a block does: it writes its own, and may open a frame and a closure in it.
-ghost use Rattle.std.specs.Prelude.{◌≡◌, Bool, ◌&&◌, ℕ, ◌+◌, ◌<◌};
-ghost use Rattle.plan.specs.Row.{level};
-ghost use Rattle.codegen.specs.Block.{is_arm_body, block_weight};
-ghost use Rattle.rows.specs.View.{block_of};
-ghost use Rattle.layout.specs.View.{cut};
+ghost use Rattle.std.specs.Prelude.{◌≡◌, Bool, ◌&&◌, ℕ, ◌<◌};
+ghost use Rattle.std.proofs.Math.Option.{none};
+ghost use Rattle.codegen.specs.Block.{is_arm_body};
 ghost use Rattle.emits.specs.Marks.{set_of};
-ghost use Rattle.sema.specs.Signature.{return_kind_told};
-ghost use Rattle.steps.specs.Told.{purpose_told, opens_told};
-ghost use Rattle.blocks.specs.Row.{rows_from, Splitting, Binds, Checks, EndsRow};
+ghost use Rattle.row_frames.specs.Told.{purpose_told, opens_told};
+ghost use Rattle.body.specs.Own.{WritesOwn};
+ghost use Rattle.blocks.specs.Row.{Splitting, lets_in, check_in, weight_in, WritesRow};
 
+use body::Body;
 use context::block::begin_closure;
-use emits::Written;
-use sema::signature::ReturnKind;
+use context::body_context::BodyContext;
+use row_frames::Purpose;
 use steps::arm::emit_arm;
 use steps::check::emit_check;
 use steps::lets::emit_lets;
-use steps::{Checked, Opens, Purpose};
-use view::buffers::Plan;
+use text::sink::Sink;
 
-// What a row has done: where it has come to, the frame that it opens, and whether that has a closure.
+// What a row has done: the frame that it opens, and whether that has a closure.
 #[derive(Clone, Copy)]
 pub struct RowDone {
-    pub at: usize,
-    pub odd: usize,
-    pub opens: Opens,
+    pub opens: Option<Purpose>,
     pub splits: bool,
 }
 
 // A step's `bind_order`; an arm has none.
-pub fn emit_bind_order(
-    out: &mut [u8],
-    end: usize,
-    at: usize,
-    odd: usize,
-    refs: &mut [bool; 1024],
-    bound: &mut [bool; 1024],
-    plan: &[u8],
-    words: &[u32],
-    rows: &[u32],
-    tables: &[u32],
-    index: &[u32],
-    t: usize,
-    r: usize,
-    depth: usize,
-) -> Written
-    requires { depth < 4095 }
-    ensures { Binds end plan.now words.now rows.now tables.now index.now t depth (block_of (cut words.now rows.now r)) out.old at odd (set_of refs.old) (set_of bound.old) out.new result.at result.odd (set_of refs.new) (set_of bound.new) }
+pub fn emit_bind_order(w: &mut Sink<'_>, body: &Body<'_>, context: &mut BodyContext, r: usize)
+    requires { context.old.nesting.depth < 4095 }
+    ensures { WritesOwn (Unit {0}) body.now (lets_in body.now (set_of context.old.is_bound) r) w.old context.old none w.new context.new }
 {
-    if view::block::is_step(words, rows, r) {
-        return emit_lets(
-            out, end, at, odd, refs, bound, plan, words, rows, tables, index, t, r, depth,
-        );
+    if body.plan.is_step(r) {
+        emit_lets(w, body, context, r);
     }
-    Written { at, odd }
 }
 
 // A step's check, or an arm.
 fn emit_case(
-    out: &mut [u8],
-    end: usize,
-    at: usize,
-    odd: usize,
-    refs: &mut [bool],
-    bound: &mut [bool],
-    plan: &[u8],
-    words: &[u32],
-    rows: &[u32],
-    tables: &[u32],
-    index: &[u32],
-    t: usize,
+    w: &mut Sink<'_>,
+    body: &Body<'_>,
+    context: &mut BodyContext,
     r: usize,
     last: usize,
-    depth: usize,
-    in_closure: bool,
-    log: bool,
-    ret_kind: ReturnKind,
-    term_name: usize,
     purpose: Purpose,
-) -> Checked
-    requires { depth < 4095 }
-    ensures { Checks end plan.now words.now rows.now tables.now index.now t depth in_closure log (return_kind_told ret_kind) term_name (purpose_told purpose) (block_of (cut words.now rows.now r)) (rows_from words.now rows.now last (r + 1)) out.old at odd (set_of refs.old) (set_of bound.old) out.new result.at result.odd (set_of refs.new) (set_of bound.new) (opens_told result.opens) }
+) -> Option<Purpose>
+    requires { context.old.nesting.depth < 4095 }
+    ensures { WritesOwn (Unit {0}) body.now (check_in body.now (set_of context.old.is_bound) (purpose_told purpose) r last) w.old context.old (opens_told result) w.new context.new }
 {
-    if view::block::is_step(words, rows, r) {
-        return emit_check(
-            out, end, at, odd, refs, bound, plan, words, rows, tables, index, t, r, last, depth,
-            in_closure, log, ret_kind, term_name,
-        );
+    if body.plan.is_step(r) {
+        return emit_check(w, body, context, r, last);
     }
-    emit_arm(
-        out, end, at, odd, refs, bound, plan, words, rows, tables, index, t, r, depth, purpose,
-    )
+    emit_arm(w, body, context, r, purpose)
 }
 
 // Is the frame that a row opens that of an arm of a match of several?
-fn is_arm_body(opens: Opens) -> bool
+fn is_arm_body(opens: Option<Purpose>) -> bool
     ensures { result ≡ is_arm_body (opens_told opens) }
 {
-    match opens {
-        Opens::Nothing => false,
-        Opens::Frame(p) => match p {
-            Purpose::OneArm => false,
-            Purpose::ArmsOf(_) => false,
-            Purpose::ArmBody => true,
-            Purpose::Body => false,
-        },
-    }
+    matches!(opens, Some(Purpose::ArmBody))
 }
 
 // codegen.rs 880: does row r split, an arm that has a frame of its own? Nothing is weighed where the term can't split.
-fn splits_at(
-    words: &[u32],
-    rows: &[u32],
-    r: usize,
-    last: usize,
-    opens: Opens,
-    split: bool,
-    threshold: usize,
-) -> bool
+#[tactic(auto, using(view::specs::BlockRows::level_is))]
+fn splits_at(body: &Body<'_>, r: usize, last: usize, opens: Option<Purpose>) -> bool
     requires { r < last }
-    ensures { (sp : ℕ → Bool) → Splitting sp split threshold → result ≡ is_arm_body (opens_told opens) && sp (block_weight (level (block_of (cut words.now rows.now r))) (rows_from words.now rows.now last (r + 1))) }
+    ensures { (sp : ℕ → Bool) → Splitting sp body.now.threshold → result ≡ is_arm_body (opens_told opens) && sp (weight_in body.now r last) }
 {
     if !is_arm_body(opens) {
         return false;
     }
-    if !split {
-        return false;
+    match body.threshold {
+        Some(threshold) => {
+            threshold < weights::block_weight(body.plan, body.plan.word(r, 0), r + 1, last)
+        }
+        None => false,
     }
-    let level = view::word(words, rows, r, 0);
-    let plan = Plan {
-        bytes: &[],
-        words,
-        rows,
-        tables: &[],
-        index: &[],
-    };
-    threshold < weights::block_weight(&plan, level, r + 1, last)
 }
 
 // What row r does after its `bind_order`, up to the closure that it opens.
 pub fn emit_rest(
-    out: &mut [u8],
-    end: usize,
-    at: usize,
-    odd: usize,
-    refs: &mut [bool; 1024],
-    bound: &mut [bool; 1024],
-    plan: &[u8],
-    words: &[u32],
-    rows: &[u32],
-    tables: &[u32],
-    index: &[u32],
-    t: usize,
+    w: &mut Sink<'_>,
+    body: &Body<'_>,
+    context: &mut BodyContext,
     r: usize,
     last: usize,
-    depth: usize,
-    in_closure: bool,
-    log: bool,
-    ret_kind: ReturnKind,
-    term_name: usize,
     purpose: Purpose,
-    split: bool,
-    threshold: usize,
 ) -> RowDone
-    requires { (r < last) × (depth < 4095) }
-    ensures { EndsRow end plan.now words.now rows.now tables.now index.now t depth in_closure log (return_kind_told ret_kind) term_name (purpose_told purpose) split threshold (block_of (cut words.now rows.now r)) (rows_from words.now rows.now last (r + 1)) out.old at odd (set_of refs.old) (set_of bound.old) out.new result.at result.odd (set_of refs.new) (set_of bound.new) (opens_told result.opens) result.splits }
+    requires { (r < last) × (context.old.nesting.depth < 4095) }
+    ensures { WritesRow body.now (check_in body.now (set_of context.old.is_bound) (purpose_told purpose) r last) (weight_in body.now r last) w.old context.old (opens_told result.opens) result.splits w.new context.new }
 {
-    let k = emit_case(
-        out, end, at, odd, refs, bound, plan, words, rows, tables, index, t, r, last, depth,
-        in_closure, log, ret_kind, term_name, purpose,
-    );
-    let opens = k.opens;
-    let splits = splits_at(words, rows, r, last, opens, split, threshold);
-    let at = begin_closure(out, k.at, end, depth + 1, splits);
-    RowDone {
-        at: at,
-        odd: k.odd,
-        opens: opens,
-        splits: splits,
-    }
+    let depth = context.nesting.depth;
+    let opens = emit_case(w, body, context, r, last, purpose);
+    let splits = splits_at(body, r, last, opens);
+    begin_closure(w, depth + 1, splits);
+    RowDone { opens, splits }
 }

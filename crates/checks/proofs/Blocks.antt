@@ -13,6 +13,7 @@ use Rattle.plan.specs.Lookup.{binding_at}
 use Rattle.plan.specs.Refusal.{every, is_match, is_loop, is_return, is_iterator, loop_fits, matches_armed, ends_block, returns_last, returns_fit}
 use Rattle.rows.specs.View.{nth, wide_at, patterns_in, term_of, binding_of, binding_made, block_of, step_made, arm_made}
 use Rattle.layout.specs.View.{cuts}
+use Rattle.view.specs.BlockRows.{level_is}
 use Rattle.view.specs.Buffers.{words_of, rows_of, plan_of}
 use Rattle.view.specs.Told.{control_flow_told, control_flow_of}
 use Rattle.view.specs.declared.buffers.Plan.{Plan}
@@ -24,13 +25,6 @@ use Rattle.checks.specs.Tests.{armed, ended}
 use Rattle.checks.proofs.Every.{every_same, every_map}
 
 -- STEPS
-
-pub level_is : (ws : List ℕ) → level (block_of ws) ≡ nth ws 0
-unfolding block_of level
-level_is ws = by_test (ltb (nth ws 1) 4) where
-  by_test : (b : Bool) → level (cond b (step (nth ws 0) (step_made (nth ws 1) (nth ws 2) (wide_at ws 3)) (drop 7 ws)) (arm (nth ws 0) (arm_made (nth ws 1 - 4) (nth ws 2) (wide_at ws 3)) (patterns_in (drop 7 ws)))) ≡ nth ws 0
-  by_test true = refl
-  by_test false = refl
 
 -- an arm
 module _ (ws : List ℕ) (h : ltb (nth ws 1) 4 ≡ false) where

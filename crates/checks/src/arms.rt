@@ -27,7 +27,8 @@ fn is_armed(plan: &Plan<'_>, r: usize, end: usize) -> bool
     !is_match(plan, r) || (r < end && r + 1 < end && plan.word(r, 0) < plan.word(r + 1, 0))
 }
 
-// Whether each match of the block of table t has arms.
+// Whether each match of the block of table t has arms. The tests of blocks and of plans are one line each over the loops of `tables`: what
+// differs is the test alone, and a function of those lines would be another such loop.
 fn block_armed(plan: &Plan<'_>, t: usize) -> bool
     ensures { result ≡ matches_armed (map block_of (rows_of plan.now t)) }
 {

@@ -4,10 +4,8 @@ ghost use Rattle.plan.specs.Refusal.{every, bound_below};
 ghost use Rattle.rows.specs.View.{fields_in, pattern_of, patterns_in};
 ghost use Rattle.view.specs.Buffers.{words_of};
 
+use lists::UNBOUND;
 use view::buffers::Plan;
-
-// The word of an arm's list for no binding.
-const UNBOUND: u32 = 65537;
 
 // The list of row r.
 fn list_of<'a>(plan: &Plan<'a>, r: usize, header: usize) -> &'a [u32]
@@ -38,7 +36,7 @@ pub fn patterns_below(plan: &Plan<'_>, r: usize, n: usize) -> bool
     list_of(plan, r, 7).iter().all(|q| is_bound_below(*q, n))
 }
 
-// Whether each named field's name is below `syms` and its type below `types`.
+// Whether each named field's name is below `syms` and its type below `types`. The loop counts nothing: it takes two words at a time.
 #[tactic(auto, using(crate::proofs::Lists::fields_two, crate::proofs::Lists::fields_none))]
 pub fn fields_below(plan: &Plan<'_>, r: usize, header: usize, syms: usize, types: usize) -> bool
     ensures { result ≡ every (λ f. ltb f.name syms && ltb f.ty types) (fields_in (drop header (words_of plan.now r))) }

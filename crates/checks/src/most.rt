@@ -6,12 +6,10 @@ ghost use Rattle.view.specs.Buffers.{words_of, env_of, plan_of};
 ghost use Rattle.checks.specs.Tests.{generated_of};
 ghost use Rattle.checks.specs.Within.{counts_most};
 
-use super::tables::{
-    FILES, GeneratedTables, POSS, SYMS, TERMS, TYPES, VARIANTS, all_generated, all_rows,
-    generated_count,
-};
+use super::tables::{GeneratedTables, all_generated, all_rows, generated_count};
 use literal::builtin_type::BuiltinType;
 use view::buffers::Plan;
+use view::tables::{FILES, POSS, SYMS, TERMS, TYPES, VARIANTS};
 
 // The most values that a list has, and the highest level.
 const LIST_MOST: usize = 32;

@@ -7,9 +7,10 @@ ghost use Rattle.layout.specs.View.{cuts};
 ghost use Rattle.view.specs.Buffers.{words_of, rows_of, plan_of};
 ghost use Rattle.checks.specs.Tests.{ended, generated_of};
 
-use super::tables::{GeneratedTables, TERMS, all_generated};
+use super::tables::{GeneratedTables, all_generated};
 use view::block::ControlFlow;
 use view::buffers::Plan;
+use view::tables::TERMS;
 
 // Whether row r, a return in a block that ends before row `end`, is the last step of its own block: no row after it is as deep.
 #[tactic(auto, using(crate::proofs::Blocks::last_alone, crate::proofs::Blocks::last_before))]

@@ -6,21 +6,7 @@ ghost use Rattle.view.specs.Buffers.{words_of, rows_of, plan_of};
 ghost use Rattle.checks.specs.Tests.{Tests, tables_at, generated_of};
 
 use view::buffers::Plan;
-
-// The tables of the environment by their numbers; those of the generated terms follow.
-pub const FILES: usize = 1;
-
-pub const SYMS: usize = 2;
-
-pub const POSS: usize = 3;
-
-pub const TYPES: usize = 4;
-
-pub const VARIANTS: usize = 5;
-
-pub const TERMS: usize = 6;
-
-const GENERATED: usize = 7;
+use view::tables::GENERATED;
 
 // The tables of a generated term: its number, its bindings and its block.
 #[derive(Clone, Copy)]

@@ -1,21 +1,22 @@
 -- The lines around a term's block as bytes. Assumes nothing.
-use Rattle.std.specs.Prelude.{ℕ, zero, suc, ◌+◌, ◌≤◌, ◌<◌, ◌≡◌, refl, Bool, true, false, cond, List, [], ◌∷◌, ◌++◌, length, drop, get_or}
+use Rattle.std.specs.Prelude.{ℕ, suc, ◌+◌, ◌≤◌, ◌<◌, ◌≡◌, refl, Bool, true, false, cond, List, [], ◌∷◌, ◌++◌, length, drop, get_or}
 use Rattle.std.proofs.Common.{sym, ap, ◌∙◌, append_assoc, append-nil, zero-add, add_assoc, add-one, drop_of_length-le, drop-cons}
 use Rattle.text.specs.Codes.{codes}
 use Rattle.text.specs.Digits.{decimal}
-use Rattle.text.specs.Sink.{spaces, Puts}
-use Rattle.text.specs.SinkLaws.{◌then◌, puts_nil}
+use Rattle.text.specs.Sink.{spaces}
+use Rattle.text.specs.Writes.{Writes, writes_nil, writes_then}
+use Rattle.text.specs.declared.sink.Sink.{Sink}
 use Rattle.plan.specs.Plan.{Environment, Term, FunctionKind, absent, internal, external}
 use Rattle.plan.specs.Lookup.{type_at}
 use Rattle.codegen.specs.Piece as piece
 use Rattle.codegen.specs.Piece.{Piece, fix, type, num, brace, indent, sym_text, type_text, bytes, render, odd_piece, odd_pieces}
 use Rattle.codegen.specs.ReturnKind.{ReturnKind, Iterator, Option, Plain, by_return_kind}
 use Rattle.codegen.specs.Sema.{is_ref, func_name_of, constructor_sig}
-use Rattle.codegen.specs.Block.{Part, line_bytes, what_bytes, part_bytes, text_of, odds_of}
+use Rattle.codegen.specs.Block.{line_bytes, what_bytes, part_bytes, text_of, odds_of}
 use Rattle.codegen.specs.Terms.{rowless, argument_lines, signature}
 use Rattle.splitting.specs.Lines.{text_append}
 use Rattle.splitting.specs.Simulation.{odds_append}
-use Rattle.emits.specs.Emits.{Shows, render_append, odd_append}
+use Rattle.emits.specs.Emits.{render_append, odd_append}
 
 -- lines that have no row, d deep
 unfoldable pub lines_text : Environment → ℕ → List (List Piece) → List ℕ
@@ -186,17 +187,17 @@ unfolding argument_lines argument_text
 arguments_next env i ty ts = lines_cons env 1 _ _ ∙ ap (λ (s : List ℕ). s ++ lines_text env 1 (argument_lines env (suc i) ts)) (argument_by env i ty (is_ref env ty))
 
 -- from the middle: the arguments from argument i on are left to write
-pub record ArgumentsLeft (e : ℕ) (env : Environment) (ts : List ℕ) (o₀ : List ℕ) (at₀ i : ℕ) (o : List ℕ) (at : ℕ) : Type 0 where
-  pub ends : (o' : List ℕ) (at' : ℕ) → Puts e (arguments_text env i (drop i ts)) o at o' at' → Puts e (arguments_text env 0 ts) o₀ at₀ o' at'
+pub record ArgumentsLeft (env : Environment) (ts : List ℕ) (w₀ : Sink) (i : ℕ) (w : Sink) : Type 0 where
+  pub ends : (w' : Sink) → Writes (arguments_text env i (drop i ts)) w w' → Writes (arguments_text env 0 ts) w₀ w'
 
-module _ {e : ℕ} {env : Environment} {ts : List ℕ} {o₀ : List ℕ} {at₀ : ℕ} where
-  pub arguments_start : ArgumentsLeft e env ts o₀ at₀ 0 o₀ at₀
-  arguments_start = record { ends = λ o' at' p. p }
+module _ {env : Environment} {ts : List ℕ} {w₀ : Sink} where
+  pub arguments_start : ArgumentsLeft env ts w₀ 0 w₀
+  arguments_start = record { ends = λ w' p. p }
 
-  module _ {i : ℕ} {o : List ℕ} {at : ℕ} (l : ArgumentsLeft e env ts o₀ at₀ i o at) where
-    pub arguments_more : {o' : List ℕ} {at' : ℕ} (ty : ℕ) → i < length ts → ty ≡ get_or ts i 0 → Puts e (argument_text env i ty) o at o' at' → ArgumentsLeft e env ts o₀ at₀ (i + 1) o' at'
-    arguments_more ty h q p = record { ends = λ o'' at'' x. l.ends o'' at'' (rw (drop-cons ts i 0 h, ← q, arguments_next) (p then (rw add-one at x))) }
+  module _ {i : ℕ} {w : Sink} (l : ArgumentsLeft env ts w₀ i w) where
+    pub arguments_more : {w₁ : Sink} (ty : ℕ) → i < length ts → ty ≡ get_or ts i 0 → Writes (argument_text env i ty) w w₁ → ArgumentsLeft env ts w₀ (i + 1) w₁
+    arguments_more ty h q p = record { ends = λ w' x. l.ends w' (rw (drop-cons ts i 0 h, ← q, arguments_next) (writes_then p (rw add-one at x))) }
 
-    pub arguments_done : length ts ≤ i → Puts e (arguments_text env 0 ts) o₀ at₀ o at
+    pub arguments_done : length ts ≤ i → Writes (arguments_text env 0 ts) w₀ w
     unfolding argument_lines
-    arguments_done h = l.ends o at (rw (drop_of_length-le ts h, lines_nil env 1) puts_nil)
+    arguments_done h = l.ends w (rw (drop_of_length-le ts h, lines_nil env 1) writes_nil)

@@ -1,90 +1,74 @@
 // The last lines of a generated term: codegen.rs 585 to 604.
-ghost use Rattle.std.specs.Prelude.{◌≡◌, cond, false, List, ℕ, ◌-◌, eqb};
-ghost use Rattle.text.specs.Sink.{Puts};
-ghost use Rattle.plan.specs.Plan.{Environment};
+ghost use Rattle.std.specs.Prelude.{◌≡◌, false};
+ghost use Rattle.text.specs.Writes.{Writes};
 ghost use Rattle.codegen.specs.Terms.{ends_in_return};
-ghost use Rattle.rows.specs.View.{nth};
-ghost use Rattle.layout.specs.View.{cut};
-ghost use Rattle.sema.specs.Holds.{Holds};
+ghost use Rattle.plan.specs.Refusal.{is_return};
+ghost use Rattle.rows.specs.View.{block_of};
+ghost use Rattle.view.specs.Buffers.{words_of, env_of};
 ghost use Rattle.sema.specs.Signature.{return_kind_told};
-ghost use Rattle.constructors.specs.Ending.{rows_from, last_text, end_text};
+ghost use Rattle.constructors.specs.Ending.{rows_in, last_text, end_text};
 
-use sema::names::{put_quoted_pos, put_quoted_sym};
 use sema::signature::ReturnKind;
-use text::sink::put_bytes;
+use sema::texts::{Text, put_quoted_text};
+use text::sink::Sink;
+use view::block::ControlFlow;
+use view::buffers::Plan;
 
-// Whether the last row of the root is a return, row r included.
-fn root_return(words: &[u32], rows: &[u32], r: usize, before: bool) -> bool
-    ensures { result ≡ cond (eqb (nth (cut words.now rows.now r) 0) 0) (eqb (nth (cut words.now rows.now r) 1) 3) before }
+// Is row r a return?
+#[tactic(auto, using(crate::specs::Ending::return_made))]
+fn is_return(plan: &Plan<'_>, r: usize) -> bool
+    ensures { result ≡ is_return (block_of (words_of plan.now r)) }
 {
-    if view::word(words, rows, r, 0) == 0 {
-        return view::word(words, rows, r, 1) == 3;
-    }
-    before
+    matches!(plan.control_flow_at(r), ControlFlow::Return { .. })
 }
 
-// Does the root, the rows from row `first` up to row `last`, end in a return?
-pub fn ends_in_return(words: &[u32], rows: &[u32], first: usize, last: usize) -> bool
-    ensures { result ≡ ends_in_return false (rows_from words.now rows.now last first) }
+// Does the root, the rows of level 0 from row `first` up to row `last`, end in a return?
+pub fn ends_in_return(plan: &Plan<'_>, first: usize, last: usize) -> bool
+    ensures { result ≡ ends_in_return false (rows_in plan.now last first) }
 {
     let mut returns = false;
-    let mut r = first;
-    while r < last {
-        returns = root_return(words, rows, r, returns);
-        r += 1;
+    for r in first..last {
+        if plan.word(r, 0) == 0 {
+            returns = is_return(plan, r);
+        }
     }
     returns
 }
 
 // `last_expr` of codegen.rs 585.
-fn put_last_expr(
-    out: &mut [u8],
-    at: usize,
-    end: usize,
-    plan: &[u8],
-    words: &[u32],
-    rows: &[u32],
-    tables: &[u32],
-    kind: ReturnKind,
-    name: usize,
-    pos: usize,
-) -> usize
-    ensures { (env : Environment) (index : List ℕ) → Holds env plan.now words.now rows.now tables.now index → Puts end (last_text env (return_kind_told kind) name pos) out.old at out.new result }
+#[tactic(auto, using(text::specs::Writes::writes_nil), unfolding(crate::specs::Ending::last_text, codegen::specs::ReturnKind::by_return_kind))]
+fn put_last_expr(w: &mut Sink<'_>, plan: &Plan<'_>, kind: ReturnKind, name: usize, pos: usize)
+    ensures { Writes (last_text (env_of plan.now) (return_kind_told kind) name pos) w.old w.new }
 {
     match kind {
-        ReturnKind::Iterator => at,
-        ReturnKind::Option => put_bytes(out, at, end, b"    None\n"),
+        ReturnKind::Iterator => {}
+        ReturnKind::Option => w.put_bytes(b"    None\n"),
         ReturnKind::Plain => {
-            let start =
-                b"    unreachable!(\"no rule matched for term {} at {}; should it be partial?\", ";
-            let at = put_bytes(out, at, end, start);
-            let at = put_quoted_sym(out, at, end, plan, words, rows, tables, name);
-            let at = put_bytes(out, at, end, b", ");
-            let at = put_quoted_pos(out, at, end, plan, words, rows, tables, pos);
-            put_bytes(out, at, end, b")\n")
+            w.put_bytes(
+                b"    unreachable!(\"no rule matched for term {} at {}; should it be partial?\", ",
+            );
+            put_quoted_text(w, plan, Text::Sym, name);
+            w.put_bytes(b", ");
+            put_quoted_text(w, plan, Text::Pos, pos);
+            w.put_bytes(b")\n");
         }
     }
 }
 
 // The last line, if the root does not end in a return, and the brace.
+#[tactic(auto, using(text::specs::Writes::writes_nil, text::specs::Writes::writes_then), unfolding(crate::specs::Ending::end_text))]
 pub fn put_end(
-    out: &mut [u8],
-    at: usize,
-    end: usize,
-    plan: &[u8],
-    words: &[u32],
-    rows: &[u32],
-    tables: &[u32],
+    w: &mut Sink<'_>,
+    plan: &Plan<'_>,
     returns: bool,
     kind: ReturnKind,
     name: usize,
     pos: usize,
-) -> usize
-    ensures { (env : Environment) (index : List ℕ) → Holds env plan.now words.now rows.now tables.now index → Puts end (end_text env returns (return_kind_told kind) name pos) out.old at out.new result }
+)
+    ensures { Writes (end_text (env_of plan.now) returns (return_kind_told kind) name pos) w.old w.new }
 {
-    if returns {
-        return put_bytes(out, at, end, b"}\n");
+    if !returns {
+        put_last_expr(w, plan, kind, name, pos);
     }
-    let at = put_last_expr(out, at, end, plan, words, rows, tables, kind, name, pos);
-    put_bytes(out, at, end, b"}\n")
+    w.put_bytes(b"}\n");
 }

@@ -1,123 +1,75 @@
 // The signature of a generated term: codegen.rs 541 to 583.
-ghost use Rattle.std.specs.Prelude.{List, ℕ};
-ghost use Rattle.text.specs.Sink.{Puts};
-ghost use Rattle.plan.specs.Plan.{Environment};
-ghost use Rattle.sema.specs.Holds.{Holds};
+ghost use Rattle.text.specs.Writes.{Writes};
+ghost use Rattle.view.specs.Buffers.{env_of};
 ghost use Rattle.sema.specs.Signature.{return_kind_told, sig_told};
 ghost use Rattle.constructors.specs.Lines.{head_text, reference_text, argument_text, arguments_text, result_text};
 
-use sema::names::put_sym;
-use sema::signature::{ExternalSig, ReturnKind, param_count, param_ty, put_func_name};
-use sema::types::{is_ref, put_type};
-use text::number::put_decimal;
-use text::sink::put_bytes;
+use sema::signature::{ExternalSig, ReturnKind};
+use sema::texts::{Text, put_text};
+use sema::types::TypeId;
+use text::sink::Sink;
+use view::buffers::Plan;
 
 // Up to the arguments.
-pub fn put_head(
-    out: &mut [u8],
-    at: usize,
-    end: usize,
-    plan: &[u8],
-    words: &[u32],
-    rows: &[u32],
-    tables: &[u32],
-    name: usize,
-    sig: ExternalSig,
-) -> usize
-    ensures { (env : Environment) (index : List ℕ) → Holds env plan.now words.now rows.now tables.now index → Puts end (head_text env name (sig_told env sig).func_name) out.old at out.new result }
+pub fn put_head(w: &mut Sink<'_>, plan: &Plan<'_>, name: usize, sig: ExternalSig)
+    ensures { let env = env_of plan.now in Writes (head_text env name (sig_told env sig).func_name) w.old w.new }
 {
-    let comment = b"\n// Generated as internal constructor for term ";
-    let at = put_bytes(out, at, end, comment);
-    let at = put_sym(out, at, end, plan, words, rows, tables, name);
-    let at = put_bytes(out, at, end, b".\npub fn ");
-    let at = put_func_name(out, at, end, plan, words, rows, tables, sig);
-    put_bytes(out, at, end, b"<C: Context>(\n    ctx: &mut C,\n")
+    w.put_bytes(b"\n// Generated as internal constructor for term ");
+    put_text(w, plan, Text::Sym, name);
+    w.put_bytes(b".\npub fn ");
+    sig.put_func_name(w, plan);
+    w.put_bytes(b"<C: Context>(\n    ctx: &mut C,\n");
 }
 
 // What stands before the type of an argument that is a reference.
-fn put_reference(out: &mut [u8], at: usize, end: usize, is_ref: bool) -> usize
-    ensures { Puts end (reference_text is_ref) out.old at out.new result }
+#[tactic(auto, using(text::specs::Writes::writes_nil), unfolding(crate::specs::Lines::reference_text))]
+fn put_reference(w: &mut Sink<'_>, is_ref: bool)
+    ensures { Writes (reference_text is_ref) w.old w.new }
 {
     if is_ref {
-        return put_bytes(out, at, end, b"&");
+        w.put_bytes(b"&");
     }
-    at
 }
 
 // An argument's line.
-fn put_argument(
-    out: &mut [u8],
-    at: usize,
-    end: usize,
-    plan: &[u8],
-    words: &[u32],
-    rows: &[u32],
-    tables: &[u32],
-    i: usize,
-    ty: usize,
-) -> usize
-    ensures { (env : Environment) (index : List ℕ) → Holds env plan.now words.now rows.now tables.now index → Puts end (argument_text env i ty) out.old at out.new result }
+fn put_argument(w: &mut Sink<'_>, plan: &Plan<'_>, i: usize, ty: TypeId)
+    ensures { Writes (argument_text (env_of plan.now) i ty.0) w.old w.new }
 {
-    let at = put_bytes(out, at, end, b"    arg");
-    let at = put_decimal(out, at, end, i as u64);
-    let at = put_bytes(out, at, end, b": ");
-    let at = put_reference(out, at, end, is_ref(words, rows, tables, ty));
-    let at = put_type(out, at, end, plan, words, rows, tables, ty);
-    put_bytes(out, at, end, b",\n")
+    w.put_bytes(b"    arg");
+    w.put_decimal(i as u64);
+    w.put_bytes(b": ");
+    put_reference(w, ty.is_ref(plan));
+    ty.put_name(w, plan);
+    w.put_bytes(b",\n");
 }
 
-pub fn put_arguments(
-    out: &mut [u8],
-    at: usize,
-    end: usize,
-    plan: &[u8],
-    words: &[u32],
-    rows: &[u32],
-    tables: &[u32],
-    sig: ExternalSig,
-) -> usize
-    ensures { (env : Environment) (index : List ℕ) → Holds env plan.now words.now rows.now tables.now index → Puts end (arguments_text env 0 (sig_told env sig).param_tys) out.old at out.new result }
+pub fn put_arguments(w: &mut Sink<'_>, plan: &Plan<'_>, sig: ExternalSig)
+    ensures { let env = env_of plan.now in Writes (arguments_text env 0 (sig_told env sig).param_tys) w.old w.new }
 {
-    let count = param_count(words, rows, tables, sig);
-    let mut next = at;
-    let mut i = 0;
-    while i < count {
-        let ty = param_ty(words, rows, tables, sig, i);
-        next = put_argument(out, next, end, plan, words, rows, tables, i, ty);
-        i += 1;
+    for i in 0..sig.param_count(plan) {
+        put_argument(w, plan, i, sig.param_ty(plan, i));
     }
-    next
 }
 
 // After the arguments.
-pub fn put_result(
-    out: &mut [u8],
-    at: usize,
-    end: usize,
-    plan: &[u8],
-    words: &[u32],
-    rows: &[u32],
-    tables: &[u32],
-    kind: ReturnKind,
-    ty: usize,
-) -> usize
-    ensures { (env : Environment) (index : List ℕ) → Holds env plan.now words.now rows.now tables.now index → Puts end (result_text env (return_kind_told kind) ty) out.old at out.new result }
+pub fn put_result(w: &mut Sink<'_>, plan: &Plan<'_>, kind: ReturnKind, ty: TypeId)
+    ensures { Writes (result_text (env_of plan.now) (return_kind_told kind) ty.0) w.old w.new }
 {
     match kind {
         ReturnKind::Iterator => {
-            let at = put_bytes(out, at, end, b"    returns: &mut (impl Extend<");
-            let at = put_type(out, at, end, plan, words, rows, tables, ty);
-            put_bytes(out, at, end, b"> + Length),\n) -> () {\n")
+            w.put_bytes(b"    returns: &mut (impl Extend<");
+            ty.put_name(w, plan);
+            w.put_bytes(b"> + Length),\n) -> () {\n");
         }
         ReturnKind::Option => {
-            let at = put_bytes(out, at, end, b") -> Option<");
-            let at = put_type(out, at, end, plan, words, rows, tables, ty);
-            put_bytes(out, at, end, b"> {\n")
+            w.put_bytes(b") -> Option<");
+            ty.put_name(w, plan);
+            w.put_bytes(b"> {\n");
         }
         ReturnKind::Plain => {
-            let at = put_bytes(out, at, end, b") -> ");
-            let at = put_type(out, at, end, plan, words, rows, tables, ty);
-            put_bytes(out, at, end, b" {\n")
+            w.put_bytes(b") -> ");
+            ty.put_name(w, plan);
+            w.put_bytes(b" {\n");
         }
     }
 }

@@ -2,30 +2,26 @@
 ghost use Rattle.std.specs.Prelude.{◌∷◌, ◌++◌, ◌+◌};
 ghost use Rattle.text.specs.Codes.{codes};
 ghost use Rattle.text.specs.Digits.{decimal};
-ghost use Rattle.text.specs.Sink.{Puts};
+ghost use Rattle.text.specs.Writes.{Writes};
 ghost use Rattle.codegen.specs.Piece.{indent};
 
-use text::number::put_decimal;
-use text::sink::{put_byte, put_bytes, put_indent};
+use text::sink::Sink;
 
 // `v` and the binding's number.
-pub fn put_var(out: &mut [u8], at: usize, end: usize, binding: usize) -> usize
-    ensures { Puts end (codes "v" ++ decimal binding) out.old at out.new result }
+pub fn put_var(w: &mut Sink<'_>, binding: usize)
+    ensures { Writes (codes "v" ++ decimal binding) w.old w.new }
 {
-    let at = put_bytes(out, at, end, b"v");
-    put_decimal(out, at, end, binding as u64)
+    w.put_bytes(b"v");
+    w.put_decimal(binding as u64);
 }
 
-// A line feed, then an indentation of `more` steps beyond `depth`. More than this test lets through has no room in any buffer.
-pub fn put_break(out: &mut [u8], at: usize, end: usize, depth: usize, more: usize) -> usize
-    ensures { Puts end (10 ∷ indent (depth + more)) out.old at out.new result }
+// A line feed, then an indentation of `more` steps beyond `depth`. More than a number can count have no room in any buffer.
+pub fn put_break(w: &mut Sink<'_>, depth: usize, more: usize)
+    ensures { Writes (10 ∷ indent (depth + more)) w.old w.new }
 {
-    if 4611686018427387903 < depth {
-        return end;
+    w.put_byte(b'\n');
+    match depth.checked_add(more) {
+        Some(depth) => w.put_indent(depth),
+        None => w.at = w.end,
     }
-    if 4611686018427387903 < more {
-        return end;
-    }
-    let at = put_byte(out, at, end, 10);
-    put_indent(out, at, end, depth + more)
 }

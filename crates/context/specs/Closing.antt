@@ -1,15 +1,15 @@
 -- The bytes that begin and end blocks and closures, by their depth. Assumes nothing: these are definitions.
-use Rattle.std.specs.Prelude.{ℕ, suc, Bool, cond, List, [], ◌∷◌, ◌++◌}
+use Rattle.std.specs.Prelude as code
+use Rattle.std.specs.Prelude.{ℕ, suc, Bool, cond, List, [], ◌∷◌, ◌++◌, Some, None}
 use Rattle.std.proofs.Math.Option.{Option, some, none}
 use Rattle.text.specs.Codes.{codes}
 use Rattle.text.specs.Digits.{decimal}
 use Rattle.codegen.specs.Piece.{indent}
-use Rattle.context.specs.declared.block.Closure.{Closure}
-use Rattle.context.specs.declared.block.Closure.TheVariants.{Absent, Number}
 
-abbrev pub closure_told : Closure → Option ℕ
-closure_told Absent = none
-closure_told (Number n) = some n
+-- the number of a block's closure, if it has one
+abbrev pub closure_told : code.Option ℕ → Option ℕ
+closure_told None = none
+closure_told (Some n) = some n
 
 -- a line, d deep
 unfoldable pub line_of : ℕ → List ℕ → List ℕ

@@ -1,4 +1,4 @@
 pub mod Closing
-pub mod Puts
 pub mod Laws
 pub mod Context
+pub mod Steps

@@ -17,9 +17,7 @@ use sema::types::TypeId;
 use text::sink::Sink;
 use view::buffers::Plan;
 use view::environment::FunctionKind;
-
-// The table of the terms.
-const TERMS: usize = 6;
+use view::tables::TERMS;
 
 // `type_name` of codegen.rs 506.
 #[tactic(auto, using(crate::specs::Shown::shown), unfolding(codegen::specs::Items::type_name))]

@@ -19,11 +19,10 @@ use sema::types::TypeId;
 use text::sink::Sink;
 use view::buffers::Plan;
 use view::environment::{Declared, Shape, TypeData};
+use view::tables::TYPES;
 
-// The table of the types.
-const TYPES: usize = 4;
-
-// The fields of a struct may be `pub`; those of a variant stand one step deeper.
+// The fields of a struct may be `pub`; those of a variant stand one step deeper. What stands before and after fields, and named and tuple
+// fields, are other texts: the functions for them are alike in form alone.
 #[tactic(auto, using(crate::proofs::Lists::at_once), unfolding(codegen::specs::Piece::render, codegen::specs::Piece::bytes, codegen::specs::Piece::indent, text::specs::Sink::spaces))]
 fn field_start(w: &mut Sink<'_>, allow: bool)
     ensures { (env : Environment) → Shows env 0 (field_start allow) w.old w.new }

@@ -12,9 +12,7 @@ ghost use Rattle.sema.specs.Holds.{VariantsIndexed};
 
 use text::sink::Sink;
 use view::buffers::Plan;
-
-// The table of the options.
-const OPTIONS: usize = 0;
+use view::tables::OPTIONS;
 
 // All that stands before the terms.
 pub fn items(w: &mut Sink<'_>, plan: &Plan<'_>)

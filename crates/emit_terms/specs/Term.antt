@@ -1,227 +1,200 @@
 -- A generated term in the buffers, and its parts one after the other. Assumes nothing.
-use Rattle.std.specs.Prelude.{ℕ, zero, suc, ◌+◌, ◌-◌, ◌≤◌, ◌<◌, ◌≡◌, Bool, cond, ◌&&◌, List, [], ◌∷◌, ◌++◌, map, length, get_or}
-use Rattle.std.proofs.Math.Path.{refl, sym}
-use Rattle.std.proofs.Common.{ap, ◌∙◌, append-nil, add_assoc, arith}
-use Rattle.std.proofs.Math.Bool.{true, false}
-use Rattle.std.proofs.Math.Dec.{ltb}
-use borrow.Author.Tests.{ltb-true, ltb-false, lt-ltb, le-ltb}
-use Rattle.text.specs.Sink.{Puts}
-use Rattle.text.specs.SinkLaws.{◌then◌, puts_nil}
-use Rattle.plan.specs.Plan.{Options, Environment, Term, Generated, Plan}
+use Rattle.std.specs.Prelude as code
+use Rattle.std.specs.Prelude.{ℕ, ◌+◌, ◌≤◌, ◌<◌, ◌≡◌, refl, Bool, true, false, cond, ◌&&◌, List, [], ◌++◌, length, get_or, ltb, Some, None}
+use Rattle.std.proofs.Common.{sym, ap, ◌∙◌, arith, ltb-true, ltb-false}
+use Rattle.text.specs.Writes.{Writes, writes_nil, writes_then}
+use Rattle.text.specs.declared.sink.Sink.{Sink}
+use Rattle.plan.specs.Plan as plan
+use Rattle.plan.specs.Plan.{Environment, Term, Generated}
 use Rattle.plan.specs.Row.{Row, level}
 use Rattle.plan.specs.Lookup.{term_at}
 use Rattle.plan.specs.Refusal.{every}
-use Rattle.codegen.specs.Writer.{Marks}
 use Rattle.codegen.specs.ReturnKind.{ReturnKind, Iterator, Option, Plain, by_return_kind}
-use Rattle.codegen.specs.Sema.{ExternalSig, constructor_sig}
-use Rattle.codegen.specs.Block.{Body, State, Part, walk, text_of, odds_of}
+use Rattle.codegen.specs.Sema as sema
+use Rattle.codegen.specs.Sema.{constructor_sig}
+use Rattle.codegen.specs.Block as block
+use Rattle.codegen.specs.Block.{State, Part, walk, text_of, odds_of}
+use Rattle.codegen.specs.Writer.{Marks}
 use Rattle.codegen.specs.Terms.{argument_refs, signature, ends_in_return, term_end, body_of, no_marks, start, splits, term_parts, all_parts, parts}
-use Rattle.rows.specs.View.{nth, flagged, term_of, options_of, binding_of, block_of}
-use Rattle.layout.specs.View.{cut, cuts, plan_of_tables}
+use Rattle.rows.specs.View.{nth, flagged, term_of, options_of, block_of}
+use Rattle.layout.specs.View.{plan_of_tables}
 use Rattle.view.specs.Tables.{table_rows, generated_at, generated_from, plan_in}
-use Rattle.view.proofs.Plans.{table_of, generated_is, generated_next, generated_none}
+use Rattle.view.specs.Buffers.{words_of, rows_of, env_of, generated_in, plan_of}
+use Rattle.view.specs.declared.buffers.Plan.{Plan}
+use Rattle.view.proofs.Plans.{table_of, term_is, generated_is, generated_next, generated_none, environment_is}
 use Rattle.splitting.specs.Marks.{with_refs}
-use Rattle.emits.specs.Place.{Place, over, place, place_here, place_over, count_over}
+use Rattle.emits.specs.Place.{place, place_here, place_over, count_over}
 use Rattle.emits.specs.Marks.{set_of}
-use Rattle.emits.specs.Rows.{run_parts, PartsEmit, ◌⟫ₚ◌, run_walk, WalkEmits}
-use Rattle.sema.specs.Holds.{Holds}
-use Rattle.sema.proofs.Laws.{term_row}
-use Rattle.context.specs.Context.{outermost, New, SameButRefs}
-use Rattle.context.specs.Laws.{parts_puts}
+use Rattle.emits.specs.Rows.{run_parts, run_walk}
+use Rattle.sema.specs.Holds.{VariantsIndexed}
+use Rattle.sema.specs.Signature.{return_kind_told, sig_told}
+use Rattle.sema.specs.declared.signature.ExternalSig.{ExternalSig}
+use Rattle.context.specs.Context.{New, SameButRefs}
 use Rattle.context.specs.declared.body_context.BodyContext.{BodyContext}
 use Rattle.constructors.specs.Lines.{head_text, arguments_text, result_text, signature_is, signature_odds}
 use Rattle.constructors.specs.Ending.{end_text, end_is, end_odds}
-use Rattle.constructors.specs.Arguments.{bindings_from}
+use Rattle.constructors.specs.Arguments.{bindings_in}
+use Rattle.schedule_rules.specs.Passes.{Each, every_each}
+use Rattle.checks.proofs.Every.{every_map, every_same}
+use Rattle.row_frames.specs.Rows.{rows_from, Shallow, shallow_rows}
+use Rattle.view.specs.BlockRows.{level_is}
+use Rattle.body.specs.Told.{env_in, rows_in, body_told, splits_above}
+use Rattle.body.specs.Walks.{WritesParts, parts_then, parts_text, WritesWalk}
+use Rattle.body.specs.declared.Body.{Body}
 use Rattle.blocks.specs.Middle.{standing}
-use Rattle.blocks.specs.Row.{Known, rows_from, Splitting}
-use Rattle.blocks.specs.Own.{level_is}
-use Rattle.blocks.specs.Stack.{rows_next, rows_none}
-use Rattle.blocks.specs.Loop.{Shallow, BlockWritten}
-use Rattle.emit_terms.specs.Accepted.{Each, every_each, TermFits, PlanFits}
+use Rattle.blocks.specs.Row.{Splitting}
+use Rattle.blocks.specs.Loop.{BlockWritten}
+use Rattle.emit_terms.specs.Accepted.{TermFits, PlanFits}
+use Rattle.emit_terms.specs.Told.{OptionsTold, Started, below_eight, term_in, BodyWritten}
+use Rattle.emit_terms.specs.declared.options.Options.{Options}
+
+-- THE OPTIONS in the buffers
+
+module _ (p : Plan) where
+  pub options_told : (r : ℕ) {log : Bool} {threshold : code.Option ℕ} → words_of p r ≡ get_or (rows_of p 0) 0 [] → log ≡ flagged (nth (words_of p r) 1) → threshold ≡ cond (flagged (nth (words_of p r) 2)) (Some (nth (words_of p r) 3)) None → OptionsTold (plan_of p).options (record { log = log; threshold = threshold })
+  unfolding plan_in plan_of_tables options_of
+  options_told r w a b = rw (table_of p.words.now p.rows.now p.tables.now 0, ← w) (record { logs = sym a; above = sym b })
 
 -- THE WALK'S PARTS
 
-module _ {e : ℕ} {env : Environment} {c : Body} {sp : ℕ → Bool} {s : State} {i : ℕ} {rs : List Row} {o : List ℕ} {at n : ℕ} {q : Marks} {o' : List ℕ} {at' n' : ℕ} where
-  pub walk_parts : WalkEmits e env c sp s i rs o at n q o' at' n' → PartsEmit {S = Unit {0}} e env (walk c sp (with_refs s q) i rs) o at n tt o' at' n' tt
-  unfolding run_walk run_parts
-  walk_parts w = record { is = w.is ∙ by_test (ltb at e) (ltb n e) refl refl }
-    where
-      by_test : (a b : Bool) → ltb at e ≡ a → ltb n e ≡ b → run_walk e env c sp s i rs (place e o at n q) ≡ run_parts e env (walk c sp (with_refs s q) i rs) tt (place e o at n tt)
-      by_test true true h g = rw (place_here e o at n q (ltb-true at e h) (ltb-true n e g), place_here {S = Unit {0}} e o at n tt (ltb-true at e h) (ltb-true n e g))
-      by_test false b h g = rw (place_over e o at n q (ltb-false at e h), place_over {S = Unit {0}} e o at n tt (ltb-false at e h))
-      by_test true false h g = rw (count_over e o at n q (ltb-false n e g), count_over {S = Unit {0}} e o at n tt (ltb-false n e g))
+pub walk_parts : {env : Environment} {c : block.Body} {sp : ℕ → Bool} {s : State} {i : ℕ} {rs : List Row} {w : Sink} {q : Marks} {w' : Sink} → WritesWalk env c sp s i rs w q w' → WritesParts env (walk c sp (with_refs s q) i rs) w w'
+unfolding run_walk run_parts
+walk_parts {env} {c} {sp} {s} {i} {rs} {w} {q} {w'} x = record { buffer = x.buffer; end = x.end; parts = record { is = x.walk.is ∙ by_test (ltb w.at w.end) (ltb w.odd w.end) refl refl } }
+  where
+    by_test : (a b : Bool) → ltb w.at w.end ≡ a → ltb w.odd w.end ≡ b
+        → run_walk w.end env c sp s i rs (place w.end w.out.now w.at w.odd q) ≡ run_parts {S = Unit {0}} w.end env (walk c sp (with_refs s q) i rs) tt (place w.end w.out.now w.at w.odd tt)
+    by_test true true h g = rw (place_here w.end w.out.now w.at w.odd q (ltb-true w.at w.end h) (ltb-true w.odd w.end g), place_here {S = Unit {0}} w.end w.out.now w.at w.odd tt (ltb-true w.at w.end h) (ltb-true w.odd w.end g))
+    by_test false b h g = rw (place_over w.end w.out.now w.at w.odd q (ltb-false w.at w.end h), place_over {S = Unit {0}} w.end w.out.now w.at w.odd tt (ltb-false w.at w.end h))
+    by_test true false h g = rw (count_over w.end w.out.now w.at w.odd q (ltb-false w.odd w.end g), count_over {S = Unit {0}} w.end w.out.now w.at w.odd tt (ltb-false w.odd w.end g))
 
 -- A TERM IN THE BUFFERS
 
-module _ (words rows tables : List ℕ) (t : ℕ) where
-  abbrev pub this : Generated
-  this = generated_at words rows tables t
-
-  pub bindings_are : {first last : ℕ} → first ≡ get_or tables (t + 1) 0 → last ≡ get_or tables (t + 1 + 1) 0 → bindings_from words rows last first ≡ this.bindings
+module _ (p : Plan) (t : ℕ) {first last : ℕ} where
+  pub bindings_are : first ≡ get_or p.tables.now (t + 1) 0 → last ≡ get_or p.tables.now (t + 1 + 1) 0 → bindings_in p last first ≡ (generated_in p t).bindings
   unfolding generated_at table_rows
   bindings_are h g = rw (h, g)
 
-  pub rows_are : {first last : ℕ} → first ≡ get_or tables (t + 2) 0 → last ≡ get_or tables (t + 2 + 1) 0 → rows_from words rows last first ≡ this.rows
+  pub rows_are : first ≡ get_or p.tables.now (t + 2) 0 → last ≡ get_or p.tables.now (t + 2 + 1) 0 → rows_from p.words.now p.rows.now last first ≡ (generated_in p t).rows
   unfolding generated_at table_rows
   rows_are h g = rw (h, g)
 
-each_cut : (P : Row → Type 0) (words rows : List ℕ) (first n r : ℕ) → Each P (map block_of (cuts words rows first n)) → first ≤ r → r < first + n → P (block_of (cut words rows r))
-unfolding cuts
-each_cut P words rows first zero r e h g = absurd (omega arith)
-each_cut P words rows first (suc n) r e h g = by_test (ltb first r) refl (λ l. each_cut P words rows (first + 1) n r e.1 (omega arith) (omega arith))
-  where
-    by_test : (b : Bool) → ltb first r ≡ b → (first < r → P (block_of (cut words rows r))) → P (block_of (cut words rows r))
-    by_test true q later = later (ltb-true first r q)
-    by_test false q later = let l : first ≡ r = omega (arith, ltb-false first r q) in rw l at e.0
+  pub started : {sig : ExternalSig} {new context : BodyContext} → New new → SameButRefs new context → first ≡ get_or p.tables.now (t + 1) 0 → last ≡ get_or p.tables.now (t + 1 + 1) 0
+      → set_of context.is_ref ≡ argument_refs (env_of p) (bindings_in p last first) 0 (sig_told (env_of p) sig).param_tys (set_of new.is_ref) → Started p t sig context
+  started n m a b r = record { refs = r ∙ rw (bindings_are a b, n.refs); bound = ap set_of m.bound ∙ n.bound; nesting = m.nesting ∙ n.nesting }
 
--- levels below m find m + 1 places
-pub shallow_rows : (words rows : List ℕ) (first last m : ℕ) → m ≤ 64 → Each (λ r. level r < m) (rows_from words rows last first) → Shallow words rows first last (m + 1)
-shallow_rows words rows first last m u e =
-    let below : (r : ℕ) → first ≤ r → r < last → level (block_of (cut words rows r)) < m = λ r h g. each_cut (λ x. level x < m) words rows first (last - first) r e h (omega arith) in
-    record { levels = λ r h g. omega (arith, below r h g); places = λ r h g. omega (arith, below r h g) }
+-- the term of a generated term, and the words of a term's row
+pub term_is_this : (p : Plan) (t : ℕ) {n : ℕ} → n ≡ nth (get_or (rows_of p t) 0 []) 0 → n ≡ (generated_in p t).term
+unfolding generated_at
+term_is_this p t h = h
 
--- the levels for which a few places are enough
-abbrev pub below_eight : Row → Bool
-below_eight r = ltb (level r) 8
+module _ (p : Plan) (n : ℕ) where
+  pub term_name : nth (get_or (rows_of p 6) n []) 0 ≡ (term_at (env_of p) n).name
+  unfolding term_of
+  term_name = ap (λ (m : Term). m.name) (sym (term_is p.words.now p.rows.now p.tables.now p.bytes.now n))
 
-pub shallow_few : (words rows : List ℕ) (first last : ℕ) → every below_eight (rows_from words rows last first) ≡ true → Shallow words rows first last 9
-shallow_few words rows first last h = shallow_rows words rows first last 8 (omega arith) (every_each below_eight (λ r. level r < 8) (λ r. ltb-true (level r) 8) (rows_from words rows last first) h)
+  pub term_pos : nth (get_or (rows_of p 6) n []) 1 ≡ (term_at (env_of p) n).pos
+  unfolding term_of
+  term_pos = ap (λ (m : Term). m.pos) (sym (term_is p.words.now p.rows.now p.tables.now p.bytes.now n))
 
-module _ (words rows : List ℕ) (r last : ℕ) where
-  pub few_next : {l : ℕ} → r < last → l ≡ nth (cut words rows r) 0 → l < 8 → every below_eight (rows_from words rows last r) ≡ every below_eight (rows_from words rows last (r + 1))
-  unfolding every
-  few_next h q g = rw (rows_next words rows r last h, level_is (cut words rows r), ← q, lt-ltb _ 8 g)
+-- the levels in the words of the rows
+pub few_rows : (p : Plan) (t : ℕ) → every below_eight (generated_in p t).rows ≡ every (λ ws. ltb (nth ws 0) 8) (rows_of p (t + 2))
+unfolding generated_at
+few_rows p t = every_map below_eight block_of (rows_of p (t + 2)) ∙ every_same _ _ (λ ws. ap (λ (l : ℕ). ltb l 8) (level_is ws)) (rows_of p (t + 2))
 
-  pub few_not : {l : ℕ} → r < last → l ≡ nth (cut words rows r) 0 → 8 ≤ l → every below_eight (rows_from words rows last r) ≡ false
-  unfolding every
-  few_not h q g = rw (rows_next words rows r last h, level_is (cut words rows r), ← q, le-ltb _ 8 g)
+-- THE BLOCK, with a place more than its levels
 
-  pub few_end : last ≤ r → every below_eight (rows_from words rows last r) ≡ true
-  unfolding every
-  few_end h = rw (rows_none words rows r last h)
+arguments_are : (x : sema.ExternalSig) (m : Term) → x ≡ constructor_sig m → x.param_tys ≡ m.arg_tys
+unfolding constructor_sig
+arguments_are x m h = ap (λ (x : sema.ExternalSig). x.param_tys) h
 
--- what the options say in code
-pub record OptionsTold (o : Options) (log split : Bool) (threshold : ℕ) : Type 0 where
-  pub logs : o.log ≡ log
-  pub splits : o.split ≡ split
-  pub above : o.threshold ≡ threshold
-
--- where the block begins
-pub record Started (words rows tables : List ℕ) (t : ℕ) (sig : Environment → ExternalSig) (s : BodyContext) : Type 0 where
-  pub refs : (env : Environment) (plan index : List ℕ) → Holds env plan words rows tables index → set_of s.is_ref ≡ argument_refs env (generated_at words rows tables t).bindings 0 (sig env).param_tys no_marks
-  pub bound : set_of s.is_bound ≡ no_marks
-  pub nesting : s.nesting ≡ outermost
-
-and_and : (a b c : Bool) → a && (b && c) ≡ (a && b) && c
-and_and true b c = refl
-and_and false b c = refl
-
-module _ {env : Environment} {plan words rows tables index : List ℕ} (t : ℕ) {o : Options} {log split : Bool} {threshold : ℕ} (name : ℕ) (h : Holds env plan words rows tables index) (u : OptionsTold o log split threshold) (f : TermFits (generated_at words rows tables t))
-    (kind : ReturnKind) (q : (constructor_sig (term_at env (generated_at words rows tables t).term)).ret_kind ≡ kind) (y : name ≡ (term_at env (generated_at words rows tables t).term).name) where
-  pub term_known : Known env (body_of o env (generated_at words rows tables t)) plan words rows tables index t log kind name
-  unfolding body_of
-  term_known = record { facts = record { holds = h; lower = f.lower; c_env = refl; c_bindings = refl }; logs = u.logs; kind = q; name = sym y }
-
-  pub term_splits : (may : Bool) → may ≡ split && by_return_kind kind true false false → Splitting (splits o env (generated_at words rows tables t)) may threshold
-  unfolding splits
-  term_splits may g = record { is = λ w. rw (u.splits, q, u.above, g) (and_and split (by_return_kind kind true false false) (ltb threshold w)) }
-
--- THE LOOP over the terms: what is left to write, from the term of table t on, ends where the whole does
-
-pub record TermsLeft (e : ℕ) (p : Plan) (words rows tables : List ℕ) (o₀ : List ℕ) (at₀ n₀ t : ℕ) (o : List ℕ) (at n : ℕ) : Type 0 where
-  pub fits : Each TermFits (generated_from words rows tables t)
-  pub ends : (o' : List ℕ) (at' n' : ℕ) → PartsEmit {S = Unit {0}} e p.env (all_parts p.options p.env (generated_from words rows tables t)) o at n tt o' at' n' tt → PartsEmit {S = Unit {0}} e p.env (parts p) o₀ at₀ n₀ tt o' at' n' tt
-
-module _ {e : ℕ} {p : Plan} {words rows tables : List ℕ} {o₀ : List ℕ} {at₀ n₀ : ℕ} where
-  pub terms_start : (plan : List ℕ) → p ≡ plan_in plan words rows tables → PlanFits p → TermsLeft e p words rows tables o₀ at₀ n₀ 7 o₀ at₀ n₀
-  terms_start plan q f =
-      let g : p.generated ≡ generated_from words rows tables 7 = ap (λ (x : Plan). x.generated) q ∙ generated_is words rows tables plan in
-      record { fits = rw g at f.terms; ends = λ o' at' n' x. rw g x }
-
-  module _ {t : ℕ} {o : List ℕ} {at n : ℕ} (l : TermsLeft e p words rows tables o₀ at₀ n₀ t o at n) where
-    pub terms_fit_here : t + 3 < length tables → TermFits (generated_at words rows tables t)
-    terms_fit_here h = (rw (generated_next words rows tables t h) at l.fits).0
-
-    pub terms_more : {o' : List ℕ} {at' n' : ℕ} → t + 3 < length tables → PartsEmit {S = Unit {0}} e p.env (term_parts p.options p.env (generated_at words rows tables t)) o at n tt o' at' n' tt → TermsLeft e p words rows tables o₀ at₀ n₀ (t + 3) o' at' n'
-    unfolding all_parts
-    terms_more h x = record {
-      fits = (rw (generated_next words rows tables t h) at l.fits).1;
-      ends = λ o'' at'' n'' y. l.ends o'' at'' n'' (rw (generated_next words rows tables t h) (x ⟫ₚ y));
-    }
-
-    pub terms_done : length tables ≤ t + 3 → PartsEmit {S = Unit {0}} e p.env (parts p) o₀ at₀ n₀ tt o at n tt
-    unfolding all_parts odds_of text_of
-    terms_done h = l.ends o at n (rw (generated_none words rows tables t h) (parts_puts refl puts_nil))
-
--- the options in the buffers
-pub options_told : (plan words rows tables : List ℕ) (p : Plan) (ws : List ℕ) {log split : Bool} {threshold : ℕ} → p ≡ plan_in plan words rows tables → ws ≡ get_or (table_rows words rows tables 0) 0 [] → log ≡ flagged (nth ws 1) → split ≡ flagged (nth ws 2) → threshold ≡ nth ws 3
-    → OptionsTold p.options log split threshold
-unfolding plan_in plan_of_tables options_of
-options_told plan words rows tables p ws q w a b c = rw (q, table_of words rows tables 0, ← w) (record { logs = sym a; splits = sym b; above = sym c })
-
--- THE PARTS OF A TERM
-
-module _ {e : ℕ} {env : Environment} {o : List ℕ} {at n : ℕ} {o₁ : List ℕ} {at₁ : ℕ} {o₂ : List ℕ} {at₂ n₂ : ℕ} {o₃ : List ℕ} {at₃ : ℕ} (op : Options) (g : Generated) where
-  pub term_joined : Puts e (text_of env (signature env (term_at env g.term))) o at o₁ at₁ → PartsEmit {S = Unit {0}} e env (walk (body_of op env g) (splits op env g) (start env g) 0 g.rows) o₁ at₁ n tt o₂ at₂ n₂ tt
-      → Puts e (text_of env (term_end (term_at env g.term) g.rows)) o₂ at₂ o₃ at₃ → PartsEmit {S = Unit {0}} e env (term_parts op env g) o at n tt o₃ at₃ n₂ tt
-  unfolding term_parts
-  term_joined x y z = parts_puts (signature_odds env (term_at env g.term)) x ⟫ₚ (y ⟫ₚ parts_puts (end_odds (term_at env g.term) g.rows) z)
-
--- WHAT THE FUNCTIONS SHOW
-
-pub and_true : (b : Bool) → b ≡ b && true
-and_true true = refl
-and_true false = refl
-
-pub and_false : (b : Bool) → false ≡ b && false
-and_false true = refl
-and_false false = refl
-
-module _ {words rows tables : List ℕ} {first last : ℕ} (t : ℕ) {sig : Environment → ExternalSig} {new context : BodyContext} where
-  pub started : New new → SameButRefs new context → first ≡ get_or tables (t + 1) 0 → last ≡ get_or tables (t + 1 + 1) 0
-      → ((env : Environment) (plan index : List ℕ) → Holds env plan words rows tables index → set_of context.is_ref ≡ argument_refs env (bindings_from words rows last first) 0 (sig env).param_tys (set_of new.is_ref))
-      → Started words rows tables t sig context
-  started n m a b r = record {
-    refs = λ env plan index h. r env plan index h ∙ rw (bindings_are words rows tables t a b, n.refs);
-    bound = ap set_of m.bound ∙ n.bound;
-    nesting = m.nesting ∙ n.nesting;
+module _ {b : Body} {sig : ExternalSig} {s : BodyContext} {first last : ℕ} {w w' : Sink} (st : Started b.plan.now b.t sig s) (q : rows_in b last first ≡ (term_in b).rows) where
+  body_written : (m : ℕ) → m ≤ 64 → (TermFits (term_in b) → Each (λ r. level r < m) (term_in b).rows) → BlockWritten b first last (m + 1) s.is_ref s.is_bound w w' → BodyWritten b sig w w'
+  unfolding start with_refs standing
+  body_written m u e x = record {
+    is = λ sp v f y h.
+        let shallow : Shallow b.plan.now.words.now b.plan.now.rows.now first last (m + 1) = shallow_rows _ _ first last m u (rw q (e f)) in
+        let refs : set_of s.is_ref ≡ argument_refs (env_in b) (term_in b).bindings 0 (term_at (env_in b) (term_in b).term).arg_tys no_marks = st.refs ∙ ap (λ (ts : List ℕ). argument_refs (env_in b) (term_in b).bindings 0 ts no_marks) (arguments_are _ _ h) in
+        walk_parts (rw (q, st.bound, refs) at (x.is sp (record { indexed = v; lower = f.lower }) y shallow));
   }
 
-module _ {e : ℕ} {env : Environment} {plan words rows tables index : List ℕ} {first last : ℕ} {o : List ℕ} {at n : ℕ} {o' : List ℕ} {at' n' : ℕ} (t : ℕ) (op : Options) (sig : Environment → ExternalSig) (s : BodyContext) where
-  pub body_emits : Holds env plan words rows tables index → Started words rows tables t sig s → first ≡ get_or tables (t + 2) 0 → last ≡ get_or tables (t + 2 + 1) 0 → sig env ≡ constructor_sig (term_at env (generated_at words rows tables t).term)
-      → WalkEmits e env (body_of op env (generated_at words rows tables t)) (splits op env (generated_at words rows tables t)) (standing (set_of s.is_bound) 0 []) 0 (rows_from words rows last first) o at n (set_of s.is_ref) o' at' n'
-      → PartsEmit {S = Unit {0}} e env (walk (body_of op env (generated_at words rows tables t)) (splits op env (generated_at words rows tables t)) (start env (generated_at words rows tables t)) 0 (generated_at words rows tables t).rows) o at n tt o' at' n' tt
-  unfolding start with_refs standing constructor_sig
-  body_emits h st a b q w = walk_parts (rw (rows_are words rows tables t a b, st.bound, st.refs env plan index h, q) at w)
+  pub few_written : every below_eight (term_in b).rows ≡ true → BlockWritten b first last 9 s.is_ref s.is_bound w w' → BodyWritten b sig w w'
+  few_written t = body_written 8 (omega arith) (λ f. every_each below_eight (λ r. level r < 8) (λ r. ltb-true (level r) 8) (term_in b).rows t)
 
-  pub body_written : {log split may : Bool} {threshold places : ℕ} (name : ℕ) (kind : ReturnKind) → Holds env plan words rows tables index → OptionsTold op log split threshold → TermFits (generated_at words rows tables t) → Started words rows tables t sig s
-      → first ≡ get_or tables (t + 2) 0 → last ≡ get_or tables (t + 2 + 1) 0 → sig env ≡ constructor_sig (term_at env (generated_at words rows tables t).term) → (sig env).ret_kind ≡ kind → name ≡ (term_at env (generated_at words rows tables t).term).name
-      → may ≡ split && by_return_kind kind true false false → Shallow words rows first last places
-      → BlockWritten e plan words rows tables index t first last log kind name may threshold places s.is_ref s.is_bound o at n o' at' n'
-      → PartsEmit {S = Unit {0}} e env (walk (body_of op env (generated_at words rows tables t)) (splits op env (generated_at words rows tables t)) (start env (generated_at words rows tables t)) 0 (generated_at words rows tables t).rows) o at n tt o' at' n' tt
-  body_written name kind h u f st a b q k y m l w =
-      let kq : (constructor_sig (term_at env (generated_at words rows tables t).term)).ret_kind ≡ kind = ap (λ (x : ExternalSig). x.ret_kind) (sym q) ∙ k in
-      body_emits h st a b q (w.is env (body_of op env (generated_at words rows tables t)) (splits op env (generated_at words rows tables t)) (term_known t name h u f kind kq y) (term_splits t name h u f kind kq y _ m) l)
+  pub all_written : BlockWritten b first last 65 s.is_ref s.is_bound w w' → BodyWritten b sig w w'
+  all_written = body_written 64 (omega arith) (λ f. f.shallow)
+
+-- THE PARTS OF A TERM
 
 ret_is : (m : Term) → get_or (constructor_sig m).ret_tys 0 0 ≡ m.ret_ty
 unfolding constructor_sig
 ret_is m = refl
 
-module _ {e : ℕ} (env : Environment) {o : List ℕ} {at : ℕ} {o₁ : List ℕ} {at₁ : ℕ} {o₂ : List ℕ} {at₂ : ℕ} {o₃ : List ℕ} {at₃ : ℕ} (m : Term) (sig : ExternalSig) (name ty : ℕ) where
-  pub signature_puts : sig ≡ constructor_sig m → name ≡ m.name → ty ≡ get_or sig.ret_tys 0 0 → Puts e (head_text env name sig.func_name) o at o₁ at₁ → Puts e (arguments_text env 0 sig.param_tys) o₁ at₁ o₂ at₂ → Puts e (result_text env sig.ret_kind ty) o₂ at₂ o₃ at₃
-      → Puts e (text_of env (signature env m)) o at o₃ at₃
-  signature_puts q y z a b c =
-      let r : ty ≡ m.ret_ty = z ∙ ap (λ (x : ExternalSig). get_or x.ret_tys 0 0) q ∙ ret_is m in
-      rw (signature_is env m) ((rw (y, q) at a) then (rw q at b) then (rw (r, q) at c))
+module _ (env : Environment) (m : Term) (sig : sema.ExternalSig) (name ty : ℕ) (q : sig ≡ constructor_sig m) (n : name ≡ m.name) (r : ty ≡ get_or sig.ret_tys 0 0) where
+  signature_bytes : head_text env name sig.func_name ++ (arguments_text env 0 sig.param_tys ++ result_text env sig.ret_kind ty) ≡ text_of env (signature env m)
+  signature_bytes =
+      let t : ty ≡ m.ret_ty = r ∙ ap (λ (x : sema.ExternalSig). get_or x.ret_tys 0 0) q ∙ ret_is m in
+      rw (t, q, n) (sym (signature_is env m))
 
-module _ {e : ℕ} (env : Environment) {o : List ℕ} {at : ℕ} {o' : List ℕ} {at' : ℕ} (m : Term) (rs : List Row) (returns : Bool) (kind : ReturnKind) (name pos : ℕ) where
-  pub end_puts : returns ≡ ends_in_return false rs → (constructor_sig m).ret_kind ≡ kind → name ≡ m.name → pos ≡ m.pos → Puts e (end_text env returns kind name pos) o at o' at' → Puts e (text_of env (term_end m rs)) o at o' at'
-  end_puts a b c d p = rw (end_is env m rs, ← a, b, ← c, ← d) p
+  pub signature_written : {w w₁ w₂ w₃ : Sink} → Writes (head_text env name sig.func_name) w w₁ → Writes (arguments_text env 0 sig.param_tys) w₁ w₂ → Writes (result_text env sig.ret_kind ty) w₂ w₃ → Writes (text_of env (signature env m)) w w₃
+  signature_written x y z = rw (← signature_bytes) (writes_then x (writes_then y z))
 
-pub term_pos : {env : Environment} {plan words rows tables index : List ℕ} (h : Holds env plan words rows tables index) (n : ℕ) → nth (get_or (table_rows words rows tables 6) n []) 1 ≡ (term_at env n).pos
-unfolding term_of
-term_pos h n = ap (λ (m : Term). m.pos) (term_row h n)
+pub end_written : (env : Environment) (m : Term) (rs : List Row) (returns : Bool) (kind : ReturnKind) (name pos : ℕ) → returns ≡ ends_in_return false rs → (constructor_sig m).ret_kind ≡ kind → name ≡ m.name → pos ≡ m.pos
+    → {w w' : Sink} → Writes (end_text env returns kind name pos) w w' → Writes (text_of env (term_end m rs)) w w'
+end_written env m rs returns kind name pos a b c d x = rw (end_is env m rs, ← a, b, ← c, ← d) x
 
-pub term_is_this : (words rows tables : List ℕ) (t : ℕ) {n : ℕ} → n ≡ nth (get_or (table_rows words rows tables t) 0 []) 0 → n ≡ (generated_at words rows tables t).term
-unfolding generated_at
-term_is_this words rows tables t h = h
+-- which arms split
+splits_by : (k : ReturnKind) (b : Bool) (n w : ℕ) → b && (by_return_kind k true false false && ltb n w) ≡ splits_above (by_return_kind k (cond b (Some n) None) None None) w
+unfolding by_return_kind
+splits_by Iterator true n w = refl
+splits_by Iterator false n w = refl
+splits_by Option true n w = refl
+splits_by Option false n w = refl
+splits_by Plain true n w = refl
+splits_by Plain false n w = refl
+
+module _ {o : plan.Options} {x : Options} (u : OptionsTold o x) (b : Body) (sig : ExternalSig) (q : sig_told (env_in b) sig ≡ constructor_sig (term_at (env_in b) (term_in b).term)) (k : b.ret_kind ≡ sig.ret_kind) where
+  kind_is : return_kind_told b.ret_kind ≡ (constructor_sig (term_at (env_in b) (term_in b).term)).ret_kind
+  kind_is = ap return_kind_told k ∙ ap (λ (y : sema.ExternalSig). y.ret_kind) q
+
+  told_body : b.log ≡ x.log → b.term_name ≡ (term_at (env_in b) (term_in b).term).name → body_told b ≡ body_of o (env_in b) (term_in b)
+  unfolding body_of
+  told_body l n = rw (kind_is, l, ← u.logs, n) refl
+
+  splitting : b.threshold ≡ by_return_kind (return_kind_told sig.ret_kind) x.threshold None None → Splitting (splits o (env_in b) (term_in b)) b.threshold
+  unfolding splits
+  splitting h = record { is = λ w. rw (h, ← u.above, ← kind_is, k) (splits_by _ o.split o.threshold w) }
+
+  -- the signature, the block, the last lines
+  pub term_written : {w w₁ w₂ w₃ : Sink} → b.log ≡ x.log → b.term_name ≡ (term_at (env_in b) (term_in b).term).name → b.threshold ≡ by_return_kind (return_kind_told sig.ret_kind) x.threshold None None
+      → VariantsIndexed b.plan.now → TermFits (term_in b)
+      → Writes (text_of (env_in b) (signature (env_in b) (term_at (env_in b) (term_in b).term))) w w₁ → BodyWritten b sig w₁ w₂
+      → ((constructor_sig (term_at (env_in b) (term_in b).term)).ret_kind ≡ return_kind_told b.ret_kind → b.term_name ≡ (term_at (env_in b) (term_in b).term).name → Writes (text_of (env_in b) (term_end (term_at (env_in b) (term_in b).term) (term_in b).rows)) w₂ w₃)
+      → WritesParts (env_in b) (term_parts o (env_in b) (term_in b)) w w₃
+  unfolding term_parts
+  term_written l n h v f y z e =
+      parts_then (parts_text (signature_odds (env_in b) _) y)
+      (parts_then (rw (told_body l n) at (z.is (splits o (env_in b) (term_in b)) v f (splitting h) q)) (parts_text (end_odds _ (term_in b).rows) (e (sym kind_is) n)))
+
+-- THE LOOP over the terms: what is left to write, from the term of table t on, ends where the whole does
+
+pub record TermsLeft (p : Plan) (w₀ : Sink) (t : ℕ) (w : Sink) : Type 0 where
+  pub fits : Each TermFits (generated_from p.words.now p.rows.now p.tables.now t)
+  pub ends : (w' : Sink) → WritesParts (env_of p) (all_parts (plan_of p).options (env_of p) (generated_from p.words.now p.rows.now p.tables.now t)) w w' → WritesParts (env_of p) (parts (plan_of p)) w₀ w'
+
+module _ {p : Plan} {w₀ : Sink} where
+  pub terms_start : PlanFits (plan_of p) → TermsLeft p w₀ 7 w₀
+  terms_start f =
+      let g = generated_is p.words.now p.rows.now p.tables.now p.bytes.now in
+      record { fits = rw g at f.terms; ends = λ w' x. rw (g, environment_is p.words.now p.rows.now p.tables.now p.bytes.now) x }
+
+  module _ {t : ℕ} {w : Sink} (l : TermsLeft p w₀ t w) where
+    pub terms_next : {w' : Sink} → t + 3 < length p.tables.now → (TermFits (generated_in p t) → WritesParts (env_of p) (term_parts (plan_of p).options (env_of p) (generated_in p t)) w w') → TermsLeft p w₀ (t + 3) w'
+    unfolding all_parts
+    terms_next h x =
+        let next = generated_next p.words.now p.rows.now p.tables.now t h in
+        let f = rw next at l.fits in
+        record { fits = f.1; ends = λ w₂ y. l.ends w₂ (rw next (parts_then (x f.0) y)) }
+
+    pub terms_done : length p.tables.now ≤ t + 3 → WritesParts (env_of p) (parts (plan_of p)) w₀ w
+    unfolding all_parts odds_of text_of
+    terms_done h = l.ends w (rw (generated_none p.words.now p.rows.now p.tables.now t h) (parts_text refl writes_nil))

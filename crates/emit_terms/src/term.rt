@@ -1,142 +1,88 @@
 // Whole terms, one after the other.
-ghost use Rattle.std.specs.Prelude.{◌≡◌, List, [], ℕ, ◌+◌, ◌<◌, length, get_or};
-ghost use Rattle.text.specs.Sink.{Puts};
-ghost use Rattle.plan.specs.Plan.{Options, Environment, Plan};
+ghost use Rattle.std.specs.Prelude.{◌≡◌, ℕ, [], ◌+◌, ◌<◌, length, get_or};
+ghost use Rattle.text.specs.Writes.{Writes};
+ghost use Rattle.plan.specs.Plan as definition;
 ghost use Rattle.plan.specs.Lookup.{term_at};
 ghost use Rattle.codegen.specs.Sema.{constructor_sig};
 ghost use Rattle.codegen.specs.Block.{text_of};
 ghost use Rattle.codegen.specs.Terms.{signature, term_end, term_parts, parts};
 ghost use Rattle.rows.specs.View.{nth};
-ghost use Rattle.view.specs.Tables.{table_rows, generated_at, plan_in};
-ghost use Rattle.emits.specs.Rows.{PartsEmit};
-ghost use Rattle.sema.specs.Holds.{Holds};
+ghost use Rattle.view.specs.Buffers.{rows_of, env_of, generated_in, plan_of};
+ghost use Rattle.sema.specs.Holds.{VariantsIndexed};
 ghost use Rattle.sema.specs.Signature.{return_kind_told, sig_told};
+ghost use Rattle.body.specs.Told.{env_in};
+ghost use Rattle.body.specs.Walks.{WritesParts};
 ghost use Rattle.emit_terms.specs.Accepted.{TermFits, PlanFits};
-ghost use Rattle.emit_terms.specs.Term.{OptionsTold};
+ghost use Rattle.emit_terms.specs.Told.{OptionsTold, term_in};
 
-use super::body::emit_body;
+use super::block::{block_rows, emit_body};
+use super::options::Options;
+use body::Body;
+use checks::tables::generated_count;
 use constructors::ending::{ends_in_return, put_end};
 use constructors::signature::{put_arguments, put_head, put_result};
-use emits::Written;
-use sema::signature::{ExternalSig, ReturnKind, constructor_sig, ret_ty};
+use sema::signature::{ExternalSig, TermId};
+use text::sink::Sink;
+use view::buffers::Plan;
+use view::tables::{GENERATED, TERMS};
 
-// The word k of a row of the table t.
-fn table_word(words: &[u32], rows: &[u32], tables: &[u32], t: usize, n: usize, k: usize) -> usize
-    ensures { result ≡ nth (get_or (table_rows words.now rows.now tables.now t) n []) k }
+// The word k of row n of table t.
+fn table_word(plan: &Plan<'_>, t: usize, n: usize, k: usize) -> usize
+    ensures { result ≡ nth (get_or (rows_of plan.now t) n []) k }
 {
-    let r = view::row_at(rows, tables, t, n);
-    view::word(words, rows, r, k)
+    plan.word(plan.row_at(t, n), k)
 }
 
 // The signature of a term.
-pub fn emit_signature(
-    out: &mut [u8],
-    at: usize,
-    end: usize,
-    plan: &[u8],
-    words: &[u32],
-    rows: &[u32],
-    tables: &[u32],
-    sig: ExternalSig,
-    name: usize,
-) -> usize
-    ensures { (env : Environment) (index : List ℕ) (term : ℕ) → Holds env plan.now words.now rows.now tables.now index → sig_told env sig ≡ constructor_sig (term_at env term) → name ≡ (term_at env term).name → Puts end (text_of env (signature env (term_at env term))) out.old at out.new result }
+pub fn emit_signature(w: &mut Sink<'_>, plan: &Plan<'_>, sig: ExternalSig, name: usize)
+    ensures { (term : ℕ) → let env = env_of plan.now in let m = term_at env term in sig_told env sig ≡ constructor_sig m → name ≡ m.name → Writes (text_of env (signature env m)) w.old w.new }
 {
-    let ty = ret_ty(words, rows, tables, sig, 0);
-    let kind = sig.ret_kind;
-    let at = put_head(out, at, end, plan, words, rows, tables, name, sig);
-    let at = put_arguments(out, at, end, plan, words, rows, tables, sig);
-    put_result(out, at, end, plan, words, rows, tables, kind, ty)
+    put_head(w, plan, name, sig);
+    put_arguments(w, plan, sig);
+    put_result(w, plan, sig.ret_kind, sig.ret_ty(plan, 0));
 }
 
 // The last lines of a term.
-fn emit_end(
-    out: &mut [u8],
-    at: usize,
-    end: usize,
-    plan: &[u8],
-    words: &[u32],
-    rows: &[u32],
-    tables: &[u32],
-    t: usize,
-    term: usize,
-    kind: ReturnKind,
-    name: usize,
-) -> usize
-    requires { t + 3 < length tables.now }
-    ensures { (env : Environment) (index : List ℕ) → Holds env plan.now words.now rows.now tables.now index → (constructor_sig (term_at env term)).ret_kind ≡ return_kind_told kind → name ≡ (term_at env term).name → Puts end (text_of env (term_end (term_at env term) (generated_at words.now rows.now tables.now t).rows)) out.old at out.new result }
+#[tactic(auto, using(crate::specs::Term::end_written, crate::specs::Term::term_pos))]
+fn emit_end(w: &mut Sink<'_>, body: &Body<'_>, term: TermId)
+    requires { body.now.t + 3 < length body.now.plan.now.tables.now }
+    ensures { let b = body.now in let m = term_at (env_in b) term.0 in (constructor_sig m).ret_kind ≡ return_kind_told b.ret_kind → b.term_name ≡ m.name → Writes (text_of (env_in b) (term_end m (term_in b).rows)) w.old w.new }
 {
-    let first = view::bound(tables, t + 2);
-    let last = view::next_bound(tables, t + 2);
-    let returns = ends_in_return(words, rows, first, last);
-    let pos = table_word(words, rows, tables, 6, term, 1);
-    put_end(
-        out, at, end, plan, words, rows, tables, returns, kind, name, pos,
-    )
+    let plan = body.plan;
+    let (first, last) = block_rows(plan, body.t);
+    let returns = ends_in_return(plan, first, last);
+    let pos = table_word(plan, TERMS, term.0, 1);
+    put_end(w, plan, returns, body.ret_kind, body.term_name, pos);
 }
 
 // The generated term whose tables are t, t + 1 and t + 2.
-pub fn emit_term(
-    out: &mut [u8],
-    end: usize,
-    at: usize,
-    odd: usize,
-    plan: &[u8],
-    words: &[u32],
-    rows: &[u32],
-    tables: &[u32],
-    index: &[u32],
-    t: usize,
-    log: bool,
-    split: bool,
-    threshold: usize,
-) -> Written
-    requires { t + 3 < length tables.now }
-    ensures { (env : Environment) (o : Options) → Holds env plan.now words.now rows.now tables.now index.now → OptionsTold o log split threshold → TermFits (generated_at words.now rows.now tables.now t) → PartsEmit end env (term_parts o env (generated_at words.now rows.now tables.now t)) out.old at odd (tt {0}) out.new result.at result.odd (tt {0}) }
+pub fn emit_term(w: &mut Sink<'_>, plan: &Plan<'_>, options: Options, t: usize)
+    requires { t + 3 < length plan.now.tables.now }
+    ensures { (o : definition.Options) → VariantsIndexed plan.now → OptionsTold o options → TermFits (generated_in plan.now t) → WritesParts (env_of plan.now) (term_parts o (env_of plan.now) (generated_in plan.now t)) w.old w.new }
 {
-    let term = table_word(words, rows, tables, t, 0, 0);
-    let name = table_word(words, rows, tables, 6, term, 0);
-    let sig = constructor_sig(words, rows, tables, term);
-    let kind = sig.ret_kind;
-    let at = emit_signature(out, at, end, plan, words, rows, tables, sig, name);
-    let w = emit_body(
-        out, end, at, odd, plan, words, rows, tables, index, t, sig, name, log, split, threshold,
-    );
-    let at = emit_end(
-        out, w.at, end, plan, words, rows, tables, t, term, kind, name,
-    );
-    Written { at: at, odd: w.odd }
+    let term = TermId(table_word(plan, t, 0, 0));
+    let name = table_word(plan, TERMS, term.0, 0);
+    let sig = term.constructor_sig(plan);
+    let body = Body {
+        plan,
+        t,
+        log: options.log,
+        ret_kind: sig.ret_kind,
+        term_name: name,
+        threshold: options.threshold_of(sig.ret_kind),
+    };
+    emit_signature(w, plan, sig, name);
+    emit_body(w, &body, sig);
+    emit_end(w, &body, term);
 }
 
 // All generated terms: their tables follow the first seven, three for each.
-pub fn generate_internal_term_constructors(
-    out: &mut [u8],
-    end: usize,
-    at: usize,
-    odd: usize,
-    plan: &[u8],
-    words: &[u32],
-    rows: &[u32],
-    tables: &[u32],
-    index: &[u32],
-) -> Written
-    ensures { (p : Plan) → p ≡ plan_in plan.now words.now rows.now tables.now → Holds p.env plan.now words.now rows.now tables.now index.now → PlanFits p → PartsEmit end p.env (parts p) out.old at odd (tt {0}) out.new result.at result.odd (tt {0}) }
+#[tactic(auto, using(checks::proofs::Tests::terms_count))]
+pub fn generate_internal_term_constructors(w: &mut Sink<'_>, plan: &Plan<'_>)
+    ensures { VariantsIndexed plan.now → PlanFits (plan_of plan.now) → WritesParts (env_of plan.now) (parts (plan_of plan.now)) w.old w.new }
 {
-    let options = view::row_at(rows, tables, 0, 0);
-    let log = view::flag(words, rows, options, 1);
-    let split = view::flag(words, rows, options, 2);
-    let threshold = view::word(words, rows, options, 3);
-    let count = tables.len();
-    let mut w = Written { at: at, odd: odd };
-    let mut t = 7;
-    while t < count {
-        if count - t <= 3 {
-            return w;
-        }
-        w = emit_term(
-            out, end, w.at, w.odd, plan, words, rows, tables, index, t, log, split, threshold,
-        );
-        t += 3;
+    let options = Options::read(plan);
+    for i in 0..generated_count(plan) {
+        emit_term(w, plan, options, GENERATED + 3 * i);
     }
-    w
 }

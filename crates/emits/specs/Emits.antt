@@ -92,15 +92,3 @@ emits_ask {e} {env} {d} {b} {f} {o} {at} {n} {r} v q p = record { is = p.is ∙ 
 pub emits_past : {e : ℕ} {env : Environment} {d : ℕ} {w : Writer} {o : List ℕ} {at n : ℕ} {r : Marks} {o' : List ℕ} {at' n' : ℕ} {r' : Marks} → e ≤ at → e ≤ at' → Emits e env d w o at n r o' at' n' r'
 unfolding run
 emits_past {e} {env} {d} {w} {o} {at} {n} {r} {o'} {at'} {n'} {r'} h g = record { is = rw (place_over e o at n r h, place_over e o' at' n' r' g) }
-
--- A LOOP that writes from the front: what is left to write, w at the present place, ends where w₀ from the start does.
-pub record Rest (e : ℕ) (env : Environment) (d : ℕ) (w₀ : Writer) (o₀ : List ℕ) (at₀ n₀ : ℕ) (r₀ : Marks) (w : Writer) (o : List ℕ) (at n : ℕ) (r : Marks) : Type 0 where
-  pub ends : (o' : List ℕ) (at' n' : ℕ) (r' : Marks) → Emits e env d w o at n r o' at' n' r' → Emits e env d w₀ o₀ at₀ n₀ r₀ o' at' n' r'
-
-module _ {e : ℕ} {env : Environment} {d : ℕ} {w₀ : Writer} {o₀ : List ℕ} {at₀ n₀ : ℕ} {r₀ : Marks} where
-  pub rest_all : Rest e env d w₀ o₀ at₀ n₀ r₀ w₀ o₀ at₀ n₀ r₀
-  rest_all = record { ends = λ o' at' n' r' p. p }
-
-  pub rest_more : {v w : Writer} {o : List ℕ} {at n : ℕ} {r : Marks} {o₁ : List ℕ} {at₁ n₁ : ℕ} {r₁ : Marks}
-      → Rest e env d w₀ o₀ at₀ n₀ r₀ (v ▸ w) o at n r → Emits e env d v o at n r o₁ at₁ n₁ r₁ → Rest e env d w₀ o₀ at₀ n₀ r₀ w o₁ at₁ n₁ r₁
-  rest_more g p = record { ends = λ o' at' n' r' q. g.ends o' at' n' r' (p ⟫ q) }

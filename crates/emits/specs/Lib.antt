@@ -1,7 +1,7 @@
 pub mod Place
 pub mod Emits
-pub mod Pieces
 pub mod Rows
 pub mod Marks
 pub mod Sinks
 pub mod Runs
+pub mod Emitted

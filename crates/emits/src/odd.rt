@@ -1,15 +1,15 @@
 // The count of odd literals. It stops at the room: a text that fits has fewer odd literals than bytes.
 ghost use Rattle.std.specs.Prelude.{cond};
-ghost use Rattle.emits.specs.Emits.{Counts};
+ghost use Rattle.emits.specs.Runs.{Counted};
+
+use text::sink::Sink;
 
 // One more if the literal is odd.
-pub fn count(odd: usize, end: usize, is_odd: bool) -> usize
-    ensures { Counts end (cond is_odd 1 0) odd result }
+#[tactic(auto, using(crate::specs::Emits::counts_one, crate::specs::Emits::counts_full, crate::specs::Emits::counts_none))]
+pub fn count_odd(w: &mut Sink<'_>, is_odd: bool)
+    ensures { Counted (cond is_odd 1 0) w.old w.new }
 {
-    if is_odd {
-        if odd < end {
-            return odd + 1;
-        }
+    if is_odd && w.odd < w.end {
+        w.odd += 1;
     }
-    odd
 }

@@ -1,5 +1,5 @@
 -- What is measured and written gives the answer. Assumes nothing.
-use Rattle.std.specs.Prelude.{ℕ, ◌+◌, ◌-◌, ◌≤◌, ◌<◌, Bool, cond, ◌&&◌, List, [], ◌∷◌, ◌++◌, get_or, drop, Option, Some, None, Ok, Err}
+use Rattle.std.specs.Prelude.{ℕ, ◌+◌, ◌≤◌, ◌<◌, Bool, cond, ◌&&◌, List, ◌++◌, drop, Option, Some, None, Ok, Err}
 use Rattle.std.proofs.Math.Path.{◌≡◌, refl, sym}
 use Rattle.std.proofs.Common.{ap, ◌∙◌, subst}
 use Rattle.std.proofs.Math.Bool.{true, false}
@@ -13,9 +13,8 @@ use Rattle.plan.specs.Refusal.{Outcome, refused, accepted, outcome}
 use Rattle.codegen.specs.Piece.{render}
 use Rattle.codegen.specs.Items.{items}
 use Rattle.codegen.specs.Terms.{terms_text, odds, parts}
-use Rattle.codegen.specs.Answer.{Answer, refuse, answer_of, answer, terms_answer, whole_text}
+use Rattle.codegen.specs.Answer.{refuse, answer_of, answer, terms_answer, whole_text}
 use Rattle.codegen.specs.OddLaws.{odds_le, odds_le_whole}
-use Rattle.emits.specs.Rows.{PartsEmit}
 use Rattle.splitting.specs.Accepted.{refused_number}
 use Rattle.reader.specs.Reading.{Says}
 use Rattle.refusals.specs.Answered.{Indexes}
@@ -24,19 +23,19 @@ use Rattle.refusal.specs.declared.Refusal.{Refusal}
 use Rattle.refusal.specs.declared.Refusal.TheVariants.{Room}
 use Rattle.text.specs.declared.sink.Sink.{Sink}
 use Rattle.emits.specs.Sinks.{Shows}
-use Rattle.view.specs.Tables.{plan_in}
 use Rattle.view.proofs.Plans.{environment_is}
 use Rattle.view.proofs.Held.{plan_is}
-use Rattle.sema.specs.Holds.{Holds, VariantsIndexed}
-use Rattle.view.specs.Buffers.{plan_of}
+use Rattle.sema.specs.Holds.{VariantsIndexed}
+use Rattle.view.specs.Buffers.{env_of, plan_of}
 use Rattle.view.specs.declared.buffers.Plan as buffers
 use Rattle.emitter.specs.declared.Text.{Text}
 use Rattle.emitter.specs.Answered.{Emitted, Answers, uncounted, items_answer}
-use Rattle.emit_terms.specs.Accepted.{accepted_fits}
+use Rattle.body.specs.Walks.{WritesParts}
+use Rattle.emit_terms.specs.Accepted.{PlanFits, accepted_fits}
 use Rattle.emitter.specs.Held.{Held, HeldIn, form_text, form_count, answer_with, answer_in}
 use Rattle.emitter.specs.declared.Form.{Form}
 use Rattle.emitter.specs.declared.Form.TheVariants.{Whole, Terms, Items}
-use Rattle.emitter.specs.Texts.{Texts, texts_parts, texts_puts, puts_texts, texts_room, texts_fit, texts_written, Starts, WritesText, Measured}
+use Rattle.emitter.specs.Texts.{Texts, parts_written, texts_puts, puts_texts, texts_room, texts_fit, texts_written, Starts, WritesText, Measured}
 
 -- THE TEXTS
 
@@ -46,9 +45,9 @@ form_le Terms p = odds_le p
 form_le Items p = omega arith
 
 module _ (p : Plan) {w w' : Sink} where
-  pub terms_written : w'.out.ghost_name ≡ w.out.ghost_name → w'.end ≡ w.end → PartsEmit {S = Unit {0}} w.end p.env (parts p) w.out.now w.at w.odd (tt {0}) w'.out.now w'.at w'.odd (tt {0}) → WritesText (terms_text p) (odds p) w w'
+  pub terms_written : WritesParts p.env (parts p) w w' → WritesText (terms_text p) (odds p) w w'
   unfolding terms_text odds
-  terms_written b e q = record { buffer = b; end = e; texts = texts_parts q }
+  terms_written x = parts_written x
 
   pub items_written : Starts w → Shows p.env 0 (items p) w w' → WritesText (render p.env 0 (items p)) 0 w w'
   items_written h q = record { buffer = q.is.buffer; end = q.is.end; texts = rw (q.is.odd, h.odd, h.at) (texts_puts (rw h.at at q.is.puts)) }
@@ -183,18 +182,19 @@ module _ (f : Form) (s words rows tables : List ℕ) (room : ℕ) (o : List ℕ)
 -- THE ENVIRONMENT
 
 -- what the buffers hold, for the functions that write
-pub holds_of : {p : Plan} {plan words rows tables index : List ℕ} → Held p plan words rows tables index → Holds p.env plan words rows tables index
-holds_of {p} {plan} {words} {rows} {tables} h = record {
-  is = ap (λ (x : Plan). x.env) (sym h.is) ∙ environment_is words rows tables plan;
-  indexed = h.indexed;
-  others = (accepted_fits plan p h.accepts).others;
-}
+module _ {p : Plan} (b : buffers.Plan) (h : HeldIn p b) where
+  fits_of : PlanFits (plan_of b)
+  fits_of = rw h.is (accepted_fits b.bytes.now p h.accepts)
 
-pub indexed_of : {p : Plan} {b : buffers.Plan} → HeldIn p b → VariantsIndexed b
-indexed_of {p} {b} h = record {
-  indexed = h.indexed;
-  others = λ n g. rw (← (holds_of h).is) ((accepted_fits b.bytes.now p h.accepts).others n g);
-}
+  indexed_of : VariantsIndexed b
+  indexed_of = record { indexed = h.indexed; others = rw (environment_is b.words.now b.rows.now b.tables.now b.bytes.now) at fits_of.others }
 
-pub items_of : {p : Plan} {b : buffers.Plan} {w w' : Sink} → HeldIn p b → (VariantsIndexed b → Shows (plan_of b).env 0 (items (plan_of b)) w w') → Shows p.env 0 (items p) w w'
-items_of {p} {b} {w} {w'} h f = subst (λ (q : Plan). Shows q.env 0 (items q) w w') h.is (f (indexed_of h))
+module _ {p : Plan} {b : buffers.Plan} {w w' : Sink} (h : HeldIn p b) where
+  pub items_of : (VariantsIndexed b → Shows (plan_of b).env 0 (items (plan_of b)) w w') → Shows p.env 0 (items p) w w'
+  items_of f = subst (λ (q : Plan). Shows q.env 0 (items q) w w') h.is (f (indexed_of b h))
+
+  pub terms_of : (VariantsIndexed b → PlanFits (plan_of b) → WritesParts (env_of b) (parts (plan_of b)) w w') → WritesText (terms_text p) (odds p) w w'
+  terms_of f =
+      let e : (plan_of b).env ≡ env_of b = environment_is b.words.now b.rows.now b.tables.now b.bytes.now in
+      let x : WritesParts (plan_of b).env (parts (plan_of b)) w w' = subst (λ (y : Environment). WritesParts y (parts (plan_of b)) w w') (sym e) (f (indexed_of b h) (fits_of b h)) in
+      terms_written p (subst (λ (q : Plan). WritesParts q.env (parts q) w w') h.is x)

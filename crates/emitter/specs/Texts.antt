@@ -1,5 +1,5 @@
 -- A text with its count, put into a buffer from its start: what fits is there, and what doesn't fit is seen not to. Assumes nothing.
-use Rattle.std.specs.Prelude.{ℕ, zero, suc, ◌+◌, ◌≤◌, ◌<◌, Bool, cond, ◌&&◌, List, [], ◌++◌, drop, leb, Option, Some, None}
+use Rattle.std.specs.Prelude.{ℕ, ◌+◌, ◌≤◌, ◌<◌, Bool, cond, List, [], ◌++◌, drop, leb, Option, Some, None}
 use Rattle.std.proofs.Math.Path.{◌≡◌, refl, sym, ap}
 use Rattle.std.proofs.Common.{◌∙◌, append-nil, arith, zero-add, add-zero, add_assoc, length-append}
 use Rattle.std.proofs.Math.Bool.{true, false}
@@ -14,6 +14,7 @@ use Rattle.plan.specs.Plan.{Environment}
 use Rattle.emits.specs.Place.{Place, over, here, place, place_here, place_over, count_over, place_cases}
 use Rattle.emits.specs.Rows.{PartsEmit, run_parts}
 use Rattle.text.specs.declared.sink.Sink.{Sink}
+use Rattle.body.specs.Walks.{WritesParts}
 use Rattle.emitter.specs.declared.Text.{Text}
 
 -- a text of which k literals are odd
@@ -24,7 +25,7 @@ run_text e t k (here o at n s) = place e (sets o at t) (at + length t) (n + k) (
 pub record Texts (e : ℕ) (t : List ℕ) (k : ℕ) (o : List ℕ) (at n : ℕ) (o' : List ℕ) (at' n' : ℕ) : Type 0 where
   pub is : place {S = Unit {0}} e o' at' n' (tt {0}) ≡ run_text e t k (place e o at n (tt {0}))
 
-pub texts_parts : {e : ℕ} {env : Environment} {ps : List Part} {o : List ℕ} {at n : ℕ} {o' : List ℕ} {at' n' : ℕ} → PartsEmit {S = Unit {0}} e env ps o at n (tt {0}) o' at' n' (tt {0}) → Texts e (text_of env ps) (odds_of ps) o at n o' at' n'
+texts_parts : {e : ℕ} {env : Environment} {ps : List Part} {o : List ℕ} {at n : ℕ} {o' : List ℕ} {at' n' : ℕ} → PartsEmit {S = Unit {0}} e env ps o at n (tt {0}) o' at' n' (tt {0}) → Texts e (text_of env ps) (odds_of ps) o at n o' at' n'
 unfolding run_parts run_text
 texts_parts {e} {env} {ps} {o} {at} {n} p = record { is = p.is ∙ place_cases (λ x. run_parts e env ps (tt {0}) x ≡ run_text e (text_of env ps) (odds_of ps) x) e o at n (tt {0}) (λ h g. refl) (λ h. refl) (λ h. refl) }
 
@@ -101,6 +102,10 @@ pub record WritesText (t : List ℕ) (k : ℕ) (w w' : Sink) : Type 0 where
   pub buffer : w'.out.ghost_name ≡ w.out.ghost_name
   pub end : w'.end ≡ w.end
   pub texts : Texts w.end t k w.out.now w.at w.odd w'.out.now w'.at w'.odd
+
+-- parts are their text
+pub parts_written : {env : Environment} {ps : List Part} {w w' : Sink} → WritesParts env ps w w' → WritesText (text_of env ps) (odds_of ps) w w'
+parts_written x = record { buffer = x.buffer; end = x.end; texts = texts_parts x.parts }
 
 -- a text that was put from a buffer's start: its length and count, where it fits the room, and then, where it fits the buffer too, it stands there
 pub record Measured (t : List ℕ) (k room : ℕ) (o o' : List ℕ) (r : Option Text) : Type 0 where

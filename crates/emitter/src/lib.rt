@@ -14,6 +14,7 @@ ghost use Rattle.emitter.specs.Answered.{Answers, items_answer};
 ghost use Rattle.emitter.specs.Held.{HeldIn, form_text, form_count, answer_in};
 ghost use Rattle.emitter.specs.Texts.{Starts, WritesText, Measured};
 
+use emit_terms::term::generate_internal_term_constructors;
 use layout::{Buffers, Filled};
 use refusal::Refusal;
 use text::sink::Sink;
@@ -34,35 +35,16 @@ pub enum Form {
     Items,
 }
 
-// The text of the generated terms.
-fn put_terms(w: &mut Sink<'_>, plan: &Plan<'_>)
-    ensures { (p : definition.Plan) → HeldIn p plan.now → WritesText (form_text Form.Terms p) (form_count Form.Terms p) w.old w.new }
-{
-    let written = emit_terms::term::generate_internal_term_constructors(
-        w.out,
-        w.end,
-        w.at,
-        w.odd,
-        plan.bytes,
-        plan.words,
-        plan.rows,
-        plan.tables,
-        plan.index,
-    );
-    w.at = written.at;
-    w.odd = written.odd;
-}
-
-// `generate_rust` of codegen.rs 176, or a part of it.
+// `generate_rust` of codegen.rs 176, or a part of it. A closure in place of the form would say which at each entry, and no less.
 fn put_text(w: &mut Sink<'_>, form: Form, plan: &Plan<'_>)
     ensures { (p : definition.Plan) → HeldIn p plan.now → Starts w.old → WritesText (form_text form p) (form_count form p) w.old w.new }
 {
     match form {
         Form::Whole => {
             emit_items::items(w, plan);
-            put_terms(w, plan);
+            generate_internal_term_constructors(w, plan);
         }
-        Form::Terms => put_terms(w, plan),
+        Form::Terms => generate_internal_term_constructors(w, plan),
         Form::Items => emit_items::items(w, plan),
     }
 }

@@ -115,7 +115,8 @@ pub fn constraint_at(plan: &Plan<'_>, r: usize) -> Constraint
     plan.constraint_at(r)
 }
 
-// How many arms a match of a level has, of the rows from row `from` up to row `end`.
+// How many arms a match of a level has, of the rows from row `from` up to row `end`. This and the next two publish
+// those of `weights`.
 pub fn arm_count(plan: &Plan<'_>, level: usize, from: usize, end: usize) -> usize
     ensures { result ≡ arm_count level (rows_between plan.now from end) }
 {

@@ -9,10 +9,10 @@ ghost use Rattle.view.specs.Told.{function_told};
 ghost use Rattle.exists.specs.Ready.{Undeclared};
 
 use super::indexed::Indexed;
-use checks::tables::{POSS, SYMS, TERMS, TYPES};
 use literal::builtin_type::BuiltinType;
 use view::buffers::Plan;
 use view::environment::{FunctionKind, TypeData};
+use view::tables::{POSS, SYMS, TERMS, TYPES};
 
 #[tactic(auto, using(view::proofs::Plans::syms_count))]
 pub fn sym_count(plan: &Plan<'_>) -> usize

@@ -14,10 +14,11 @@ use super::counts::{
 use super::environment::{term_refers, type_refers, variant_refers};
 use super::indexed::Indexed;
 use checks::list::{list_below, patterns_below};
-use checks::tables::{GeneratedTables, TERMS, TYPES, VARIANTS, all_generated, all_rows};
+use checks::tables::{GeneratedTables, all_generated, all_rows};
 use view::binding::Binding;
 use view::block::{Constraint, ControlFlow};
 use view::buffers::Plan;
+use view::tables::{TERMS, TYPES, VARIANTS};
 
 // Whether all that a binding names exists, its sources aside; `args` is how many arguments the generated term has.
 #[tactic(auto, unfolding(plan::specs::Refusal::binding_refers))]

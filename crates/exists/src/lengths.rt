@@ -10,10 +10,11 @@ ghost use Rattle.exists.specs.Ready.{binding_length_fits, generated_fits};
 
 use super::counts::type_row;
 use super::indexed::Indexed;
-use checks::tables::{GeneratedTables, TERMS, VARIANTS, all_generated, all_rows};
+use checks::tables::{GeneratedTables, all_generated, all_rows};
 use view::binding::Binding;
 use view::block::Constraint;
 use view::buffers::Plan;
+use view::tables::{TERMS, VARIANTS};
 
 // How many fields the type n has.
 #[tactic(auto, using(crate::proofs::Sorts::fields_undeclared))]

@@ -1,3 +1,4 @@
 pub mod Loops
-pub mod Numbers
+pub mod Bindings
+pub mod Calls
 pub mod Turns

@@ -6,19 +6,25 @@ use mathlib.Core.List.{List}
 use native.Mathlib.Nat.{add-zero}
 use native.Mathlib.Omega.{arith}
 use lib.ListN.{length, get_or}
+use Rattle.std.specs.Prelude.{Some, None}
+use Rattle.text.specs.declared.sink.Sink.{Sink}
 use Rattle.plan.specs.Plan.{Environment}
 use Rattle.plan.specs.Binding.{Binding, ConstBool, ConstInt, ConstPrim, Argument, Extractor, Constructor, Iterator, MakeVariant, MakeStruct, MakeSome, MatchSome, MatchTuple, MatchVariant, ExtractStruct}
 use Rattle.codegen.specs.Writer.{Marks, contains, Writer, ◌▸◌}
 use Rattle.codegen.specs.Expr.{emit_below, emit_expr}
-use Rattle.emits.specs.Emits.{Emits, Rest, ◌⟫◌, emits_ask, emits_past, rest_all}
-use Rattle.sema.specs.Holds.{Holds}
+use Rattle.view.specs.Buffers.{env_of}
+use Rattle.view.specs.declared.buffers.Plan.{Plan}
+use Rattle.emits.specs.Runs.{Emits, Rest, ◌⟫◌, emits_ask, emits_past}
+use Rattle.sema.specs.Holds.{VariantsIndexed}
 use Rattle.splitting.specs.Cases.{by_leb}
+use Rattle.consts.specs.EmitsLaws.{emits_same}
 use Rattle.expr_parts.specs.Sources.{one_source}
+use Rattle.expr_parts.proofs.Laws.{emits_nothing}
 use Rattle.expr.specs.Between.{row_of, source_count, inner, turns, up_to}
 use Rattle.expr.specs.Lower.{Lower}
-use Rattle.expr.specs.Next.{StepIs}
-use Rattle.expr.specs.Writes.{bindings_at, Ready, Writes, Leaves, rest_of}
-use Rattle.expr_parts.proofs.Laws.{emits_nothing, emits_same}
+use Rattle.expr.specs.declared.between.Source.{Source}
+use Rattle.expr.specs.Next.{HasNoName, StepIs}
+use Rattle.expr.specs.Writes.{bindings_at, below, Ready, Writes, Leaves, rest_of}
 use Rattle.expr.proofs.Turns.{Same, same_start, same_turn, inner_plus}
 
 -- READY
@@ -40,17 +46,17 @@ inner_most (MatchTuple f) d = omega arith
 inner_most (MatchVariant f) d = omega arith
 inner_most (ExtractStruct f) d = omega arith
 
-module _ {env : Environment} {plan words rows tables index : List ℕ} {t depth b d₀ d k : ℕ} where
+module _ {p : Plan} {t depth b d₀ d k : ℕ} where
   -- for what a binding's number says, from its expression's
-  ready_inside : Ready env plan words rows tables index t depth (suc b) (suc b) d₀ d (suc k) → Ready env plan words rows tables index t depth (suc b) b d₀ d k
-  ready_inside h = record { holds = h.holds; lower = h.lower; deep = h.deep; room = h.room; fuel = omega (arith, h.fuel) }
+  ready_inside : Ready p t depth (suc b) (suc b) d₀ d (suc k) → Ready p t depth (suc b) b d₀ d k
+  ready_inside h = record { indexed = h.indexed; lower = h.lower; deep = h.deep; room = h.room; fuel = omega (arith, h.fuel) }
 
-  not_deepest : Ready env plan words rows tables index t depth (suc b) b d₀ d k → depth < 4611686018427387904
+  not_deepest : Ready p t depth (suc b) b d₀ d k → depth < 4611686018427387904
   not_deepest h = omega (arith, h.room)
 
   -- for a source
-  ready_source : (x : Binding) {q below : ℕ} → q < b → below ≡ inner x depth → Ready env plan words rows tables index t depth (suc b) b d₀ d k → Ready env plan words rows tables index t below (suc q) (suc q) d₀ (inner x d) k
-  ready_source x l e h = record { holds = h.holds; lower = h.lower; deep = rw e (inner_plus x d₀ d h.deep); room = omega (arith, h.room, inner_most x depth, e); fuel = omega (arith, h.fuel) }
+  ready_source : (x : Binding) {q deep : ℕ} → q < b → deep ≡ inner x depth → Ready p t depth (suc b) b d₀ d k → Ready p t deep (suc q) (suc q) d₀ (inner x d) k
+  ready_source x l e h = record { indexed = h.indexed; lower = h.lower; deep = rw e (inner_plus x d₀ d h.deep); room = omega (arith, h.room, inner_most x depth, e); fuel = omega (arith, h.fuel) }
 
 -- a source that is written is below its binding
 counted_lower : (e : Environment) (k : Binding) (qs : List ℕ) (b i : ℕ) → (one_source k ≡ true → 0 < length qs) → ((j : ℕ) → j < length qs → get_or qs j 0 < b) → i < source_count e k qs → get_or qs i 0 < b
@@ -71,77 +77,68 @@ counted_lower e (ExtractStruct f) qs b i o l h = l i (omega (arith, o refl))
 
 -- ONE AFTER THE OTHER
 
-rest_after : {e : ℕ} {env : Environment} {d : ℕ} {w₀ : Writer} {o₀ : List ℕ} {at₀ n₀ : ℕ} {r₀ : Marks} {v w x : Writer} {o : List ℕ} {at n : ℕ} {r : Marks} {o₁ : List ℕ} {at₁ n₁ : ℕ} {r₁ : Marks}
-    → Same (v ▸ x) w → Rest e env d w₀ o₀ at₀ n₀ r₀ w o at n r → Emits e env d v o at n r o₁ at₁ n₁ r₁ → Rest e env d w₀ o₀ at₀ n₀ r₀ x o₁ at₁ n₁ r₁
-rest_after h g p = record { ends = λ o' at' n' r' s. g.ends o' at' n' r' (emits_same h.is (p ⟫ s)) }
+rest_after : {env : Environment} {d : ℕ} {v₀ : Writer} {w₀ : Sink} {r₀ : Marks} {v u x : Writer} {w : Sink} {r : Marks} {w₁ : Sink} {r₁ : Marks}
+    → Same (v ▸ x) u → Rest env d v₀ w₀ r₀ u w r → Emits env d v w r w₁ r₁ → Rest env d v₀ w₀ r₀ x w₁ r₁
+rest_after {r = r} h g p = record { ends = λ w' r' s. g.ends w' r' (emits_same (h.is r) (p ⟫ s)) }
 
--- no source is left
-module _ {e : ℕ} {plan words rows tables index : List ℕ} (bound : Marks) {t depth b i at q below : ℕ} (l : b ≤ q) (s : StepIs e plan words rows tables index bound depth b (row_of words rows tables t b).binding (row_of words rows tables t b).sources i at q below) where
-  counted : (env : Environment) (d₀ d k : ℕ) → Ready env plan words rows tables index t depth (suc b) b d₀ d k → at < e → contains bound b ≡ false → source_count env (row_of words rows tables t b).binding (row_of words rows tables t b).sources ≤ i
-  counted env d₀ d k h p y =
-      by_leb (λ x. source_count env (row_of words rows tables t b).binding (row_of words rows tables t b).sources ≤ i) (source_count env (row_of words rows tables t b).binding (row_of words rows tables t b).sources) i (λ c. c)
-      (λ c. absurd (omega (arith, (s.done l p y).done l env h.holds c, counted_lower env (row_of words rows tables t b).binding (row_of words rows tables t b).sources b i (h.lower.one b) (h.lower.lower b) c)))
+module _ (p : Plan) (bound : Marks) (t depth b : ℕ) where
+  -- no source is left
+  module _ (i : ℕ) (w : Sink) (s : StepIs p bound t depth b i w None) where
+    counted : (d₀ d k : ℕ) → Ready p t depth (suc b) b d₀ d k → HasNoName bound b w → source_count (env_of p) (row_of p t b).binding (row_of p t b).sources ≤ i
+    counted d₀ d k h n =
+        by_leb (λ x. source_count (env_of p) (row_of p t b).binding (row_of p t b).sources ≤ i) (source_count (env_of p) (row_of p t b).binding (row_of p t b).sources) i (λ c. c)
+        (λ c. absurd (omega (arith, s n c, counted_lower (env_of p) (row_of p t b).binding (row_of p t b).sources b i (h.lower.one b) (h.lower.lower b) c)))
 
-  none_left : (env : Environment) (d₀ d k : ℕ) {o : List ℕ} {n : ℕ} {r : Marks} → Ready env plan words rows tables index t depth (suc b) b d₀ d k → at < e → (v : Bool) → contains bound b ≡ v
-      → Emits e env d₀ (rest_of words rows tables bound t b i env (emit_below env (bindings_at words rows tables t) bound k) d) o at n r o at n r
-  unfolding turns
-  none_left env d₀ d k h p true y = rw y emits_nothing
-  none_left env d₀ d k h p false y =
-      let z : source_count env (row_of words rows tables t b).binding (row_of words rows tables t b).sources - i ≡ 0 = omega (arith, counted env d₀ d k h p y) in
-      rw (y, z) emits_nothing
+    none_left : (d₀ d k : ℕ) {r : Marks} → Ready p t depth (suc b) b d₀ d k → w.at < w.end → (v : Bool) → contains bound b ≡ v → Emits (env_of p) d₀ (rest_of p bound t b i (below p bound t k) d) w r w r
+    unfolding turns
+    none_left d₀ d k h g true y = rw y emits_nothing
+    none_left d₀ d k h g false y =
+        let z : source_count (env_of p) (row_of p t b).binding (row_of p t b).sources - i ≡ 0 = omega (arith, counted d₀ d k h (record { room = g; nameless = y })) in
+        rw (y, z) emits_nothing
 
-module _ {e : ℕ} {plan words rows tables index : List ℕ} (bound : Marks) {t depth b : ℕ} {o : List ℕ} {at n : ℕ} {r : Marks} where
-  -- at the first source
-  pub leaves_all : Leaves e plan words rows tables index bound t depth (suc b) b (rest_of words rows tables bound t b 0) o at n r (rest_of words rows tables bound t b 0) o at n r
-  leaves_all = record { is = λ env d₀ d k h. rest_all }
-
-  module _ {i q below : ℕ} {o₁ : List ℕ} {at₁ n₁ : ℕ} {r₁ : Marks} where
-    -- source i, and up to the next
-    pub leaves_turn : {given : Bool} {o₂ : List ℕ} {at₂ n₂ : ℕ} {r₂ : Marks} {o₃ : List ℕ} {at₃ n₃ : ℕ} {r₃ : Marks} → q < b
-        → Leaves e plan words rows tables index bound t depth (suc b) b (rest_of words rows tables bound t b 0) o at n r (rest_of words rows tables bound t b i) o₁ at₁ n₁ r₁
-        → StepIs e plan words rows tables index bound depth b (row_of words rows tables t b).binding (row_of words rows tables t b).sources i at₁ q below
-        → contains r₁ q ≡ given
-        → Writes e plan words rows tables index bound t below (suc q) (suc q) (λ env rec d. rec d q) o₁ at₁ n₁ r₁ o₂ at₂ n₂ r₂
-        → ((env : Environment) (d₀ d : ℕ) → Holds env plan words rows tables index → depth ≡ d₀ + d → depth < 4611686018427387904 → Emits e env d₀ (up_to env bound d b (row_of words rows tables t b).binding (row_of words rows tables t b).sources (i + 1) given) o₂ at₂ n₂ r₂ o₃ at₃ n₃ r₃)
-        → Leaves e plan words rows tables index bound t depth (suc b) b (rest_of words rows tables bound t b 0) o at n r (rest_of words rows tables bound t b (i + 1)) o₃ at₃ n₃ r₃
-    leaves_turn {given} l g s m p u = record {
-      is = λ env d₀ d k h.
-          let x = row_of words rows tables t b in
-          let z : i + 1 ≡ suc i = omega arith in
-          let is = (s.more l).source l in
-          rw z (rest_after (same_turn env bound (emit_below env (bindings_at words rows tables t) bound k) d b x.binding x.sources i (s.nameless l) ((s.more l).more l env h.holds)) (g.is env d₀ d k h)
-          (rw (← is) (emits_ask given m (p.is env d₀ (inner x.binding d) k (ready_source x.binding l ((s.more l).deep l (not_deepest h)) h) ⟫ (rw (z, ← is) at (u env d₀ d h.holds h.deep (not_deepest h)))))));
-    }
-
-    module _ (l : b ≤ q) (s : StepIs e plan words rows tables index bound depth b (row_of words rows tables t b).binding (row_of words rows tables t b).sources i at₁ q below) where
-      -- from the first source
-      writes_rest : Leaves e plan words rows tables index bound t depth (suc b) b (rest_of words rows tables bound t b 0) o at n r (rest_of words rows tables bound t b i) o₁ at₁ n₁ r₁ → Writes e plan words rows tables index bound t depth (suc b) b (rest_of words rows tables bound t b 0) o at n r o₁ at₁ n₁ r₁
-      writes_rest g = record {
-        is = λ env d₀ d k h.
-            by_leb (λ x. Emits e env d₀ (rest_of words rows tables bound t b 0 env (emit_below env (bindings_at words rows tables t) bound k) d) o at n r o₁ at₁ n₁ r₁) e at₁
-            (λ p. (g.is env d₀ d k h).ends _ _ _ _ (emits_past p p))
-            (λ p. (g.is env d₀ d k h).ends _ _ _ _ (none_left bound l s env d₀ d k h p (contains bound b) refl));
+  module _ {w : Sink} {r : Marks} where
+    module _ (i : ℕ) {w₁ : Sink} {r₁ : Marks} (g : Leaves p bound t depth (suc b) b (rest_of p bound t b 0) w r (rest_of p bound t b i) w₁ r₁) where
+      -- source i, and up to the next
+      pub leaves_turn : (s : Source) {given : Bool} {w₂ : Sink} {r₂ : Marks} {w₃ : Sink} {r₃ : Marks} → StepIs p bound t depth b i w₁ (Some s) → contains r₁ s.binding ≡ given
+          → Writes p bound t s.depth (suc s.binding) (suc s.binding) (λ rec d. rec d s.binding) w₁ r₁ w₂ r₂
+          → (VariantsIndexed p → (d₀ d : ℕ) → depth ≡ d₀ + d → depth < 4611686018427387904 → Emits (env_of p) d₀ (up_to (env_of p) bound d b (row_of p t b).binding (row_of p t b).sources (i + 1) given) w₂ r₂ w₃ r₃)
+          → Leaves p bound t depth (suc b) b (rest_of p bound t b 0) w r (rest_of p bound t b (i + 1)) w₃ r₃
+      leaves_turn s {given} n m q u = record {
+        is = λ d₀ d k h.
+            let x = row_of p t b in
+            let z : i + 1 ≡ suc i = omega arith in
+            let is = n.1.source in
+            rw z (rest_after (same_turn (env_of p) bound (below p bound t k) d b x.binding x.sources i n.0 n.1.more) (g.is d₀ d k h)
+            (rw (← is) (emits_ask given m (q.is d₀ (inner x.binding d) k (ready_source x.binding n.1.below (n.1.deep (not_deepest h)) h) ⟫ (rw (z, ← is) at (u h.indexed d₀ d h.deep (not_deepest h)))))));
       }
 
-      -- from the start
-      pub writes_done : {o₀ : List ℕ} {at₀ n₀ : ℕ} {r₀ : Marks}
-          → ((env : Environment) (d₀ d : ℕ) → Holds env plan words rows tables index → depth ≡ d₀ + d → depth < 4611686018427387904 → Emits e env d₀ (up_to env bound d b (row_of words rows tables t b).binding (row_of words rows tables t b).sources 0 false) o₀ at₀ n₀ r₀ o at n r)
-          → Leaves e plan words rows tables index bound t depth (suc b) b (rest_of words rows tables bound t b 0) o at n r (rest_of words rows tables bound t b i) o₁ at₁ n₁ r₁
-          → Writes e plan words rows tables index bound t depth (suc b) (suc b) (λ env rec d. rec d b) o₀ at₀ n₀ r₀ o₁ at₁ n₁ r₁
-      unfolding emit_below
-      writes_done {o₀} {at₀} {n₀} {r₀} u g = record { is = go }
-        where
-          go : (env : Environment) (d₀ d k : ℕ) → Ready env plan words rows tables index t depth (suc b) (suc b) d₀ d k → Emits e env d₀ (emit_below env (bindings_at words rows tables t) bound k d b) o₀ at₀ n₀ r₀ o₁ at₁ n₁ r₁
-          go env d₀ d zero h = absurd (omega (arith, h.fuel))
-          go env d₀ d (suc k) h =
-              let h' = ready_inside h in
-              emits_same (same_start env bound (emit_below env (bindings_at words rows tables t) bound k) d b (row_of words rows tables t b).binding (row_of words rows tables t b).sources).is
-              (u env d₀ d h.holds h.deep (not_deepest h') ⟫ (writes_rest g).is env d₀ d k h')
+      module _ (s : StepIs p bound t depth b i w₁ None) where
+        -- from the first source
+        writes_rest : Writes p bound t depth (suc b) b (rest_of p bound t b 0) w r w₁ r₁
+        writes_rest = record {
+          is = λ d₀ d k h.
+              by_leb (λ x. Emits (env_of p) d₀ (rest_of p bound t b 0 (below p bound t k) d) w r w₁ r₁) w₁.end w₁.at
+              (λ q. (g.is d₀ d k h).ends _ _ (emits_past q))
+              (λ q. (g.is d₀ d k h).ends _ _ (none_left i w₁ s d₀ d k h q (contains bound b) refl));
+        }
+
+        -- from the start
+        pub writes_done : {w₀ : Sink} {r₀ : Marks}
+            → (VariantsIndexed p → (d₀ d : ℕ) → depth ≡ d₀ + d → depth < 4611686018427387904 → Emits (env_of p) d₀ (up_to (env_of p) bound d b (row_of p t b).binding (row_of p t b).sources 0 false) w₀ r₀ w r)
+            → Writes p bound t depth (suc b) (suc b) (λ rec d. rec d b) w₀ r₀ w₁ r₁
+        unfolding emit_below
+        writes_done {w₀} {r₀} u = record { is = go }
+          where
+            go : (d₀ d k : ℕ) → Ready p t depth (suc b) (suc b) d₀ d k → Emits (env_of p) d₀ (below p bound t k d b) w₀ r₀ w₁ r₁
+            go d₀ d zero h = absurd (omega (arith, h.fuel))
+            go d₀ d (suc k) h =
+                let h' = ready_inside h in
+                emits_same ((same_start (env_of p) bound (below p bound t k) d b (row_of p t b).binding (row_of p t b).sources).is r₀)
+                (u h.indexed d₀ d h.deep (not_deepest h') ⟫ writes_rest.is d₀ d k h')
 
 -- A WHOLE EXPRESSION
 
-pub writes_expr : {e : ℕ} {env : Environment} {plan words rows tables index : List ℕ} {bound : Marks} {t depth b : ℕ} {o : List ℕ} {at n : ℕ} {r : Marks} {o' : List ℕ} {at' n' : ℕ} {r' : Marks}
-    → Holds env plan words rows tables index → Lower (bindings_at words rows tables t) → depth + b < 4611686018427387904
-    → Writes e plan words rows tables index bound t depth (suc b) (suc b) (λ env rec d. rec d b) o at n r o' at' n' r' → Emits e env depth (emit_expr env (bindings_at words rows tables t) bound b) o at n r o' at' n' r'
+pub writes_expr : {p : Plan} {bound : Marks} {t depth b : ℕ} {w : Sink} {r : Marks} {w' : Sink} {r' : Marks} → VariantsIndexed p → Lower (bindings_at p t) → depth + b < 4611686018427387904
+    → Writes p bound t depth (suc b) (suc b) (λ rec d. rec d b) w r w' r' → Emits (env_of p) depth (emit_expr (env_of p) (bindings_at p t) bound b) w r w' r'
 unfolding emit_expr
-writes_expr {env = env} {depth = depth} {b = b} h l g p = p.is env depth 0 (suc b) (record { holds = h; lower = l; deep = sym (add-zero depth); room = omega arith; fuel = omega arith })
+writes_expr {depth = depth} {b = b} h l g q = q.is depth 0 (suc b) (record { indexed = h; lower = l; deep = sym (add-zero depth); room = omega arith; fuel = omega arith })

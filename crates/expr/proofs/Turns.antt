@@ -2,12 +2,14 @@
 use Prim.Native.Nat.{ℕ, zero, suc, ◌+◌, ◌-◌, ◌≤◌, ◌<◌, min}
 use mathlib.Core.Path.{◌≡◌, refl, sym, ◌∙◌}
 use mathlib.Core.Bool.{Bool, true, false, cond, not, ◌&&◌}
+use Rattle.std.specs.Prelude.{Option, Some, None}
 use mathlib.Core.List.{List, [], ◌∷◌, ◌++◌, append_assoc, append-nil}
 use native.Mathlib.Omega.{arith}
 use lib.ListN.{length, get_or, drop}
 use Rattle.text.specs.Codes.{codes}
 use Rattle.text.specs.Digits.{decimal}
-use Rattle.text.specs.Sink.{Puts}
+use Rattle.text.specs.Writes.{Writes}
+use Rattle.text.specs.declared.sink.Sink.{Sink}
 use Rattle.plan.specs.Plan.{Fields, Environment}
 use Rattle.plan.specs.Binding.{Binding, BindingRow, ConstBool, ConstInt, ConstPrim, Argument, Extractor, Constructor, Iterator, MakeVariant, MakeStruct, MakeSome, MatchSome, MatchTuple, MatchVariant, ExtractStruct}
 use Rattle.plan.specs.Lookup.{type_at, variant_at, fields_of, term_at}
@@ -16,12 +18,13 @@ use Rattle.codegen.specs.Piece.{fix, var, indent, odd_piece, odd_pieces}
 use Rattle.codegen.specs.Writer.{Marks, contains, Writer, said, say, ask, ◌▸◌, nothing}
 use Rattle.codegen.specs.Sema.{is_ref, ExternalSig, extractor_sig, constructor_sig}
 use Rattle.codegen.specs.Expr.{passed, parameters, cloned, call, field_lines, extract_fields, emit_binding}
-use Rattle.emits.specs.Emits.{Emits, emits_ask}
-use Rattle.emits.specs.Pieces.{shows_none}
+use Rattle.view.specs.declared.buffers.Plan.{Plan}
+use Rattle.emits.specs.Sinks.{shows_none, shows_break, shows_unbrace}
+use Rattle.emits.specs.Runs.{Emits, emits_say, emits_ask}
 use Rattle.consts.specs.EmitsLaws.{shows_var_put}
-use Rattle.expr_parts.proofs.Laws.{emits_text, emits_nothing, emits_brace, emits_unbraced}
 use Rattle.expr_parts.specs.Sources.{after_one}
-use Rattle.expr.specs.Between.{source_count, inner, call_head, before_parameter, after_parameter, call_end, opens, before_field, after_field, closes, begins, turn_next, turns, first_part, next_part, from_source, up_to, from_here, entire}
+use Rattle.expr.specs.Between.{row_of, source_count, inner, call_head, before_parameter, after_parameter, call_end, opens, before_field, after_field, closes, begins, turn_next, turns, first_part, next_part, from_source, up_to, from_here, entire}
+use Rattle.expr.specs.declared.between.Source.{Source}
 use Rattle.expr.specs.Next.{NextIs, StepIs}
 
 -- WRITERS THAT SAY THE SAME
@@ -215,45 +218,38 @@ inner_plus (MatchTuple f) d₀ d h = h
 inner_plus (MatchVariant f) d₀ d h = h
 inner_plus (ExtractStruct f) d₀ d h = h
 
-module _ {e : ℕ} {env : Environment} {d : ℕ} (before : ℕ → Bool → Writer) (qs : List ℕ) (end : Writer) (count i : ℕ) {o : List ℕ} {at n : ℕ} {r : Marks} {o' : List ℕ} {at' n' : ℕ} {r' : Marks} where
-  pub emits_next : i < count → (given : Bool) → contains r (get_or qs i 0) ≡ given → Emits e env d (before i given) o at n r o' at' n' r' → Emits e env d (turn_next before qs end i (count - i)) o at n r o' at' n' r'
+module _ {env : Environment} {d : ℕ} (before : ℕ → Bool → Writer) (qs : List ℕ) (end : Writer) (count i : ℕ) {w : Sink} {r : Marks} {w' : Sink} {r' : Marks} where
+  pub emits_next : i < count → (given : Bool) → contains r (get_or qs i 0) ≡ given → Emits env d (before i given) w r w' r' → Emits env d (turn_next before qs end i (count - i)) w r w' r'
   emits_next l given h p = let z : count - i ≡ suc (count - suc i) = omega arith in rw z (emits_ask given h p)
 
-  pub emits_last : count ≤ i → Emits e env d end o at n r o' at' n' r' → Emits e env d (turn_next before qs end i (count - i)) o at n r o' at' n' r'
+  pub emits_last : count ≤ i → Emits env d end w r w' r' → Emits env d (turn_next before qs end i (count - i)) w r w' r'
   emits_last l p = let z : count - i ≡ 0 = omega arith in rw z p
 
 -- a binding's name
-pub emits_name : {e : ℕ} {env : Environment} {d v : ℕ} {o : List ℕ} {at n : ℕ} {r : Marks} {o' : List ℕ} {at' : ℕ} → Puts e (codes "v" ++ decimal v) o at o' at' → Emits e env d (say (var v ∷ [])) o at n r o' at' n r
+pub emits_name : {env : Environment} {d v : ℕ} {w : Sink} {r : Marks} {w' : Sink} → Writes (codes "v" ++ decimal v) w w' → Emits env d (say (var v ∷ [])) w r w' r
 unfolding odd_pieces odd_piece
-emits_name p = emits_text refl (shows_var_put p shows_none)
+emits_name p = emits_say refl (shows_var_put p shows_none)
 
--- the lines before and after fields, if there are fields
-module _ {e : ℕ} {env : Environment} {d : ℕ} {o : List ℕ} {at : ℕ} {n : ℕ} {r : Marks} where
-  pub emits_unopened : (qs : List ℕ) → length qs ≡ 0 → Emits e env d (opens qs) o at n r o at n r
-  emits_unopened [] h = emits_nothing
-  emits_unopened (q ∷ qs) h = absurd (omega arith)
-
-  pub emits_opened : (qs : List ℕ) {o' : List ℕ} {at' : ℕ} → (length qs ≡ 0 → ⊥) → Puts e (codes " {") o at o' at' → Emits e env d (opens qs) o at n r o' at' n r
-  emits_opened [] h p = absurd (h refl)
-  emits_opened (q ∷ qs) h p = emits_brace p
-
-  pub emits_unclosed : (d' : ℕ) (qs : List ℕ) → length qs ≡ 0 → Emits e env d (closes d' qs) o at n r o at n r
-  emits_unclosed d' [] h = emits_nothing
-  emits_unclosed d' (q ∷ qs) h = absurd (omega arith)
-
-  pub emits_closed : (d' : ℕ) (qs : List ℕ) {o₁ : List ℕ} {at₁ : ℕ} {o₂ : List ℕ} {at₂ : ℕ} {o' : List ℕ} {at' : ℕ} → (length qs ≡ 0 → ⊥)
-      → Puts e (10 ∷ []) o at o₁ at₁ → Puts e (indent (d + d')) o₁ at₁ o₂ at₂ → Puts e (codes "}") o₂ at₂ o' at' → Emits e env d (closes d' qs) o at n r o' at' n r
-  emits_closed d' [] h p q s = absurd (h refl)
-  emits_closed d' (q ∷ qs) h p i s = emits_unbraced p i s
+-- the line after fields
+pub emits_closed : {env : Environment} {d : ℕ} {w : Sink} {r : Marks} (d' : ℕ) (qs : List ℕ) {w₁ w₂ w' : Sink} → (length qs ≡ 0 → ⊥) → Writes (10 ∷ []) w w₁ → Writes (indent (d + d')) w₁ w₂ → Writes (codes "}") w₂ w' → Emits env d (closes d' qs) w r w' r
+unfolding odd_pieces odd_piece
+emits_closed d' [] h p i s = absurd (h refl)
+emits_closed d' (q ∷ qs) h p i s = emits_say refl (shows_break p i (shows_unbrace s shows_none))
 
 -- by the row of a binding that has no name
-module _ (bound : Marks) (b : ℕ) {x : BindingRow} {k : Binding} (ws : List ℕ) (is : binding_of ws ≡ x) (told : k ≡ (binding_of ws).binding) (nameless : contains bound b ≡ false) where
-  pub step_of : {e : ℕ} {plan words rows tables index : List ℕ} {depth i at q below : ℕ} → NextIs plan words rows tables index depth b k (drop 6 ws) i q below → StepIs e plan words rows tables index bound depth b x.binding x.sources i at q below
+module _ {x : BindingRow} {k : Binding} (ws : List ℕ) (is : binding_of ws ≡ x) (told : k ≡ (binding_of ws).binding) where
+  pub next_of : (p : Plan) (depth b i : ℕ) (s : Option Source) → NextIs p depth b k (drop 6 ws) i s → NextIs p depth b x.binding x.sources i s
   unfolding binding_of
-  step_of p = rw (← is, ← told) (record { nameless = λ l. nameless; more = λ l. p; done = λ l g h. p })
+  next_of p depth b i None h = rw (← is, ← told) h
+  next_of p depth b i (Some s) h = rw (← is, ← told) h
 
-  pub emits_step : {e : ℕ} {env : Environment} {d₀ : ℕ} (d i : ℕ) (given : Bool) {o : List ℕ} {at n : ℕ} {r : Marks} {o' : List ℕ} {at' n' : ℕ} {r' : Marks}
-      → Emits e env d₀ (first_part env b k (drop 6 ws) i given ▸ next_part env d b k (drop 6 ws) i (source_count env k (drop 6 ws) - i)) o at n r o' at' n' r'
-      → Emits e env d₀ (up_to env bound d b x.binding x.sources i given) o at n r o' at' n' r'
+  pub emits_step : {env : Environment} {d₀ : ℕ} (bound : Marks) (b d i : ℕ) (given : Bool) {w : Sink} {r : Marks} {w' : Sink} {r' : Marks} → contains bound b ≡ false
+      → Emits env d₀ (first_part env b k (drop 6 ws) i given ▸ next_part env d b k (drop 6 ws) i (source_count env k (drop 6 ws) - i)) w r w' r'
+      → Emits env d₀ (up_to env bound d b x.binding x.sources i given) w r w' r'
   unfolding binding_of
-  emits_step d i given p = rw (nameless, ← is, ← told) p
+  emits_step bound b d i given nameless p = rw (nameless, ← is, ← told) p
+
+module _ (p : Plan) (bound : Marks) (t depth b i : ℕ) (w : Sink) {k : Binding} (ws : List ℕ) (is : binding_of ws ≡ row_of p t b) (told : k ≡ (binding_of ws).binding) (nameless : contains bound b ≡ false) where
+  pub step_of : (s : Option Source) → NextIs p depth b k (drop 6 ws) i s → StepIs p bound t depth b i w s
+  step_of None h = λ n. next_of ws is told p depth b i None h
+  step_of (Some s) h = (nameless, next_of ws is told p depth b i (Some s) h)

@@ -1,4 +1,5 @@
 pub mod Between
+pub mod Call
 pub mod Lower
 pub mod Next
 pub mod Writes

@@ -1,22 +1,31 @@
 -- What is known of the source that is written next. Assumes nothing: these are definitions.
-use Rattle.std.specs.Prelude.{ℕ, ◌≤◌, ◌<◌, ◌≡◌, false, List, length, get_or}
-use Rattle.plan.specs.Plan.{Environment}
+use Rattle.std.specs.Prelude.{ℕ, ◌≤◌, ◌<◌, ◌≡◌, false, List, get_or, Option, Some, None}
 use Rattle.plan.specs.Binding.{Binding}
 use Rattle.codegen.specs.Writer.{Marks, contains}
-use Rattle.sema.specs.Holds.{Holds}
-use Rattle.expr.specs.Between.{source_count, inner}
+use Rattle.text.specs.declared.sink.Sink.{Sink}
+use Rattle.view.specs.Buffers.{env_of}
+use Rattle.view.specs.declared.buffers.Plan.{Plan}
+use Rattle.expr.specs.declared.between.Source.{Source}
+use Rattle.expr.specs.Between.{row_of, source_count, inner}
 
--- Source i of binding b is q, and its lines are `below` deep; a q that is not below b says that there is no source i.
-pub record NextIs (plan words rows tables index : List ℕ) (depth b : ℕ) (k : Binding) (qs : List ℕ) (i q below : ℕ) : Type 0 where
-  pub source : q < b → q ≡ get_or qs i 0
-  pub deep : q < b → depth < 4611686018427387904 → below ≡ inner k depth
-  pub within : q < b → i ≤ length qs
-  pub small : q < b → i < 18446744073709551615
-  pub more : q < b → (env : Environment) → Holds env plan words rows tables index → i < source_count env k qs
-  pub done : b ≤ q → (env : Environment) → Holds env plan words rows tables index → i < source_count env k qs → b ≤ get_or qs i 0
+-- source i of binding b, whose lines are s.depth deep
+pub record IsSource (p : Plan) (depth b : ℕ) (k : Binding) (qs : List ℕ) (i : ℕ) (s : Source) : Type 0 where
+  pub below : s.binding < b
+  pub source : s.binding ≡ get_or qs i 0
+  pub deep : depth < 4611686018427387904 → s.depth ≡ inner k depth
+  pub small : i < 18446744073709551615
+  pub more : i < source_count (env_of p) k qs
 
--- the same of a binding that may have a name, where the position is at
-pub record StepIs (e : ℕ) (plan words rows tables index : List ℕ) (bound : Marks) (depth b : ℕ) (k : Binding) (qs : List ℕ) (i at q below : ℕ) : Type 0 where
-  pub nameless : q < b → contains bound b ≡ false
-  pub more : q < b → NextIs plan words rows tables index depth b k qs i q below
-  pub done : b ≤ q → at < e → contains bound b ≡ false → NextIs plan words rows tables index depth b k qs i q below
+-- there is none where source i is not written, or is not below its binding
+abbrev pub NextIs : Plan → ℕ → ℕ → Binding → List ℕ → ℕ → Option Source → Type 0
+NextIs p depth b k qs i None = i < source_count (env_of p) k qs → b ≤ get_or qs i 0
+NextIs p depth b k qs i (Some s) = IsSource p depth b k qs i s
+
+-- the same of a binding that has no name, where there is room
+pub record HasNoName (bound : Marks) (b : ℕ) (w : Sink) : Type 0 where
+  pub room : w.at < w.end
+  pub nameless : contains bound b ≡ false
+
+abbrev pub StepIs : Plan → Marks → ℕ → ℕ → ℕ → ℕ → Sink → Option Source → Type 0
+StepIs p bound t depth b i w None = HasNoName bound b w → NextIs p depth b (row_of p t b).binding (row_of p t b).sources i None
+StepIs p bound t depth b i w (Some s) = (contains bound b ≡ false) × IsSource p depth b (row_of p t b).binding (row_of p t b).sources i s

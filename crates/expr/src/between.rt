@@ -1,452 +1,278 @@
 // What stands before, between and after the sources of a binding, for all kinds: `emit_expr` of codegen.rs 915 is this and its calls
 // of itself. None of these functions is on the stack while a source is written, so they may have what locals they like.
-ghost use Rattle.std.specs.Prelude.{ℕ, suc, ◌+◌, ◌-◌, ◌<◌, ◌≤◌, ◌≡◌, List, length};
+ghost use Rattle.std.specs.Prelude.{ℕ, suc, ◌+◌, ◌-◌, ◌<◌, ◌≡◌};
 ghost use Rattle.plan.specs.Plan.{Environment};
 ghost use Rattle.codegen.specs.Writer.{Marks, contains};
+ghost use Rattle.view.specs.Buffers.{env_of};
 ghost use Rattle.view.specs.Told.{binding_told};
-ghost use Rattle.emits.specs.Emits.{Emits};
 ghost use Rattle.emits.specs.Marks.{set_of};
-ghost use Rattle.sema.specs.Holds.{Holds};
+ghost use Rattle.emits.specs.Runs.{Emits};
+ghost use Rattle.sema.specs.Holds.{VariantsIndexed};
 ghost use Rattle.sema.specs.Signature.{sig_told};
 ghost use Rattle.expr_parts.specs.Sources.{sources_in};
 ghost use Rattle.expr.specs.Between.{row_of, source_count, inner, call_head, before_parameter, after_parameter, opens, after_field, closes, begins, before_source, after_source, ends, first_part, next_part, up_to};
 ghost use Rattle.expr.specs.Next.{NextIs, StepIs};
 
+use super::call::called;
 use consts::pieces::put_var;
 use consts::{emit_bool, emit_int};
-use emits::Written;
 use emits::stablemapset::contains;
 use expr_parts::{
-    argument, binding_row, const_prim, field_head, mark_result, parameter_count, put_after,
-    put_borrow, put_call_end, put_clone, type_name, variant_name,
+    SOURCES, argument, binding_row, const_prim, field_head, mark_result, parameter_count,
+    put_after, put_borrow, put_call_end, put_clone, type_name, variant_name,
 };
-use sema::fields::{fields_of, list_word, variant_at};
-use sema::signature::{ExternalSig, constructor_sig, extractor_sig, param_ty, put_full_name};
-use sema::types::is_ref;
-use text::sink::{put_byte, put_bytes, put_indent};
-use view::binding::{Binding, binding_at};
-use view::list_len;
+use sema::signature::ExternalSig;
+use sema::types::TypeId;
+use text::number::Wide;
+use text::sink::Sink;
+use view::binding::Binding;
+use view::buffers::Plan;
 
-// Where the writer has come to, the source that is next, and the depth of its lines. A source that is not below its binding is none.
+// The source that is written next, which is below its binding, and the depth of its lines.
 #[derive(Clone, Copy)]
-pub struct Next {
-    pub at: usize,
-    pub q: usize,
-    pub below: usize,
+pub struct Source {
+    pub binding: usize,
+    pub depth: usize,
 }
 
 // A call up to its parameters. The result is marked before they are written.
-fn call_head(
-    out: &mut [u8],
-    end: usize,
-    w: Written,
-    refs: &mut [bool],
-    plan: &[u8],
-    words: &[u32],
-    rows: &[u32],
-    tables: &[u32],
-    b: usize,
-    g: ExternalSig,
-) -> Written
-    ensures { (env : Environment) (index : List ℕ) (d : ℕ) → Holds env plan.now words.now rows.now tables.now index → Emits end env d (call_head env b (sig_told env g)) out.old w.at w.odd (set_of refs.old) out.new result.at result.odd (set_of refs.new) }
+fn call_head(w: &mut Sink<'_>, plan: &Plan<'_>, refs: &mut [bool], b: usize, sig: ExternalSig)
+    ensures { let env = env_of plan.now in (d : ℕ) → Emits env d (call_head env b (sig_told env sig)) w.old (set_of refs.old) w.new (set_of refs.new) }
 {
-    let at = mark_result(out, w.at, end, refs, words, rows, tables, b, g);
-    let at = put_full_name(out, at, end, plan, words, rows, tables, g);
-    let at = put_bytes(out, at, end, b"(ctx");
-    Written { at: at, odd: w.odd }
+    mark_result(w, plan, refs, b, sig);
+    sig.put_full_name(w, plan);
+    w.put_bytes(b"(ctx");
 }
 
 // ` {`, if there are fields.
-fn open_fields(
-    out: &mut [u8],
-    end: usize,
-    w: Written,
-    words: &[u32],
-    rows: &[u32],
-    row: usize,
-) -> Written
-    ensures { (env : Environment) (d : ℕ) (m : Marks) → Emits end env d (opens (sources_in words.now rows.now row)) out.old w.at w.odd m out.new result.at result.odd m }
+fn open_fields(w: &mut Sink<'_>, plan: &Plan<'_>, row: usize)
+    ensures { (env : Environment) (d : ℕ) (m : Marks) → Emits env d (opens (sources_in plan.now row)) w.old m w.new m }
 {
-    if list_len(words, rows, row, 6) == 0 {
-        return w;
-    }
-    let at = put_bytes(out, w.at, end, b" {");
-    Written { at: at, odd: w.odd }
-}
-
-// All that stands before the first source. Constants and arguments have none: this is all of them.
-fn begin(
-    out: &mut [u8],
-    end: usize,
-    w: Written,
-    refs: &mut [bool],
-    plan: &[u8],
-    words: &[u32],
-    rows: &[u32],
-    tables: &[u32],
-    index: &[u32],
-    b: usize,
-    k: Binding,
-    row: usize,
-) -> Written
-    ensures { (env : Environment) (d : ℕ) → Holds env plan.now words.now rows.now tables.now index.now → Emits end env d (begins env b (binding_told k) (sources_in words.now rows.now row)) out.old w.at w.odd (set_of refs.old) out.new result.at result.odd (set_of refs.new) }
-{
-    match k {
-        Binding::ConstBool { val } => emit_bool(out, end, w.at, w.odd, val),
-        Binding::ConstInt { ty, high, low } => {
-            emit_int(out, end, w.at, w.odd, words, rows, tables, ty, high, low)
-        }
-        Binding::ConstPrim { val } => const_prim(out, end, w, plan, words, rows, tables, val),
-        Binding::Argument { index: i } => argument(out, end, w, i),
-        Binding::Extractor { term } => {
-            let g = extractor_sig(words, rows, tables, term);
-            call_head(out, end, w, refs, plan, words, rows, tables, b, g)
-        }
-        Binding::Constructor { term } => {
-            let g = constructor_sig(words, rows, tables, term);
-            call_head(out, end, w, refs, plan, words, rows, tables, b, g)
-        }
-        Binding::MakeVariant { ty, variant } => {
-            let v = variant_at(words, rows, index, ty, variant);
-            let w = variant_name(out, end, w, plan, words, rows, tables, ty, v.name);
-            open_fields(out, end, w, words, rows, row)
-        }
-        Binding::MakeStruct { ty } => {
-            let w = type_name(out, end, w, plan, words, rows, tables, ty);
-            open_fields(out, end, w, words, rows, row)
-        }
-        Binding::MakeSome => {
-            let at = put_bytes(out, w.at, end, b"Some(");
-            Written { at: at, odd: w.odd }
-        }
-        _ => w,
-    }
-}
-
-// How many sources are written.
-fn count_sources(words: &[u32], rows: &[u32], tables: &[u32], k: Binding, row: usize) -> usize
-    ensures { (result ≤ suc (length (sources_in words.now rows.now row))) × ((env : Environment) (plan index : List ℕ) → Holds env plan words.now rows.now tables.now index → result ≡ source_count env (binding_told k) (sources_in words.now rows.now row)) }
-{
-    match k {
-        Binding::ConstBool { .. } => 0,
-        Binding::ConstInt { .. } => 0,
-        Binding::ConstPrim { .. } => 0,
-        Binding::Argument { .. } => 0,
-        Binding::Extractor { term } => {
-            let g = extractor_sig(words, rows, tables, term);
-            parameter_count(words, rows, tables, row, g)
-        }
-        Binding::Constructor { term } => {
-            let g = constructor_sig(words, rows, tables, term);
-            parameter_count(words, rows, tables, row, g)
-        }
-        Binding::MakeVariant { .. } => list_len(words, rows, row, 6),
-        Binding::MakeStruct { .. } => list_len(words, rows, row, 6),
-        _ => 1,
-    }
-}
-
-// One step deeper. More steps than this test lets through have no room in any buffer.
-fn deeper(depth: usize) -> usize
-    ensures { depth < 4611686018427387904 → result ≡ suc depth }
-{
-    if depth < 4611686018427387904 {
-        return depth + 1;
-    }
-    depth
-}
-
-// The depth of the sources' lines.
-fn inner_depth(k: Binding, depth: usize) -> usize
-    ensures { depth < 4611686018427387904 → result ≡ inner (binding_told k) depth }
-{
-    match k {
-        Binding::MakeVariant { .. } => deeper(depth),
-        Binding::MakeStruct { .. } => deeper(depth),
-        _ => depth,
+    if plan.list_len(row, SOURCES) != 0 {
+        w.put_bytes(b" {");
     }
 }
 
 // Before parameter i, of which it is known whether it is a reference, and after it.
-fn before_parameter(
-    out: &mut [u8],
-    at: usize,
-    end: usize,
-    words: &[u32],
-    rows: &[u32],
-    tables: &[u32],
-    g: ExternalSig,
-    i: usize,
-    given: bool,
-) -> usize
-    ensures { (env : Environment) (plan index : List ℕ) (d n : ℕ) (m : Marks) → Holds env plan words.now rows.now tables.now index → Emits end env d (before_parameter env (sig_told env g) i given) out.old at n m out.new result n m }
+fn before_parameter(w: &mut Sink<'_>, plan: &Plan<'_>, sig: ExternalSig, i: usize, given: bool)
+    ensures { let env = env_of plan.now in (d : ℕ) (m : Marks) → Emits env d (before_parameter env (sig_told env sig) i given) w.old m w.new m }
 {
-    let wanted = is_ref(words, rows, tables, param_ty(words, rows, tables, g, i));
-    let at = put_bytes(out, at, end, b", ");
-    put_borrow(out, at, end, wanted, given)
+    let wanted = sig.param_ty(plan, i).is_ref(plan);
+    w.put_bytes(b", ");
+    put_borrow(w, wanted, given);
 }
 
-fn after_parameter(
-    out: &mut [u8],
-    at: usize,
-    end: usize,
-    words: &[u32],
-    rows: &[u32],
-    tables: &[u32],
-    g: ExternalSig,
-    i: usize,
-    given: bool,
-) -> usize
-    ensures { (env : Environment) (plan index : List ℕ) (d n : ℕ) (m : Marks) → Holds env plan words.now rows.now tables.now index → Emits end env d (after_parameter env (sig_told env g) i given) out.old at n m out.new result n m }
+fn after_parameter(w: &mut Sink<'_>, plan: &Plan<'_>, sig: ExternalSig, i: usize, given: bool)
+    ensures { let env = env_of plan.now in (d : ℕ) (m : Marks) → Emits env d (after_parameter env (sig_told env sig) i given) w.old m w.new m }
 {
-    let wanted = is_ref(words, rows, tables, param_ty(words, rows, tables, g, i));
-    put_clone(out, at, end, wanted, given)
-}
-
-// Before source i.
-fn put_before(
-    out: &mut [u8],
-    at: usize,
-    end: usize,
-    plan: &[u8],
-    words: &[u32],
-    rows: &[u32],
-    tables: &[u32],
-    index: &[u32],
-    depth: usize,
-    k: Binding,
-    i: usize,
-    given: bool,
-) -> usize
-    ensures { (env : Environment) (d₀ d n : ℕ) (m : Marks) → Holds env plan.now words.now rows.now tables.now index.now → depth ≡ d₀ + d → Emits end env d₀ (before_source env d (binding_told k) i given) out.old at n m out.new result n m }
-{
-    match k {
-        Binding::Extractor { term } => {
-            let g = extractor_sig(words, rows, tables, term);
-            before_parameter(out, at, end, words, rows, tables, g, i, given)
-        }
-        Binding::Constructor { term } => {
-            let g = constructor_sig(words, rows, tables, term);
-            before_parameter(out, at, end, words, rows, tables, g, i, given)
-        }
-        Binding::MakeVariant { ty, variant } => {
-            let v = variant_at(words, rows, index, ty, variant);
-            let f = v.fields;
-            field_head(out, at, end, plan, words, rows, tables, depth, f, i)
-        }
-        Binding::MakeStruct { ty } => {
-            let f = fields_of(words, rows, tables, ty);
-            field_head(out, at, end, plan, words, rows, tables, depth, f, i)
-        }
-        _ => at,
-    }
+    let wanted = sig.param_ty(plan, i).is_ref(plan);
+    put_clone(w, wanted, given);
 }
 
 // After a field, of which it is known whether it is a reference.
-fn after_field(out: &mut [u8], at: usize, end: usize, given: bool) -> usize
-    ensures { (env : Environment) (d n q : ℕ) (m : Marks) → contains m q ≡ given → Emits end env d (after_field q) out.old at n m out.new result n m }
+fn after_field(w: &mut Sink<'_>, given: bool)
+    ensures { (env : Environment) (d q : ℕ) (m : Marks) → contains m q ≡ given → Emits env d (after_field q) w.old m w.new m }
 {
-    let at = put_clone(out, at, end, false, given);
-    put_bytes(out, at, end, b",")
-}
-
-// After source i, which is q: a parameter goes by what was known before it was written, a field is asked about now.
-fn put_after_source(
-    out: &mut [u8],
-    at: usize,
-    end: usize,
-    refs: &[bool],
-    words: &[u32],
-    rows: &[u32],
-    tables: &[u32],
-    k: Binding,
-    i: usize,
-    q: usize,
-    given: bool,
-) -> usize
-    ensures { (env : Environment) (plan index : List ℕ) (d n : ℕ) → Holds env plan words.now rows.now tables.now index → Emits end env d (after_source env (binding_told k) i q given) out.old at n (set_of refs.now) out.new result n (set_of refs.now) }
-{
-    let marked = contains(refs, q);
-    match k {
-        Binding::Extractor { term } => {
-            let g = extractor_sig(words, rows, tables, term);
-            after_parameter(out, at, end, words, rows, tables, g, i, given)
-        }
-        Binding::Constructor { term } => {
-            let g = constructor_sig(words, rows, tables, term);
-            after_parameter(out, at, end, words, rows, tables, g, i, given)
-        }
-        Binding::MakeVariant { .. } => after_field(out, at, end, marked),
-        Binding::MakeStruct { .. } => after_field(out, at, end, marked),
-        _ => put_after(out, at, end, refs, q, k),
-    }
+    put_clone(w, false, given);
+    w.put_bytes(b",");
 }
 
 // The line that closes the fields, if there are fields.
-fn close_fields(
-    out: &mut [u8],
-    at: usize,
-    end: usize,
-    words: &[u32],
-    rows: &[u32],
-    depth: usize,
-    row: usize,
-) -> usize
-    ensures { (env : Environment) (d₀ d n : ℕ) (m : Marks) → depth ≡ d₀ + d → Emits end env d₀ (closes d (sources_in words.now rows.now row)) out.old at n m out.new result n m }
+fn close_fields(w: &mut Sink<'_>, plan: &Plan<'_>, depth: usize, row: usize)
+    ensures { (env : Environment) (d₀ d : ℕ) (m : Marks) → depth ≡ d₀ + d → Emits env d₀ (closes d (sources_in plan.now row)) w.old m w.new m }
 {
-    if list_len(words, rows, row, 6) == 0 {
-        return at;
+    if plan.list_len(row, SOURCES) != 0 {
+        w.put_byte(b'\n');
+        w.put_indent(depth);
+        w.put_bytes(b"}");
     }
-    let at = put_byte(out, at, end, 10);
-    let at = put_indent(out, at, end, depth);
-    put_bytes(out, at, end, b"}")
 }
 
-// After the last source.
-fn finish(
-    out: &mut [u8],
-    at: usize,
-    end: usize,
-    words: &[u32],
-    rows: &[u32],
-    tables: &[u32],
-    depth: usize,
-    b: usize,
-    k: Binding,
+// A binding that has no name: its number, what it is, and its row, whose list has its sources.
+#[derive(Clone, Copy)]
+struct BindingRow {
+    number: usize,
+    binding: Binding,
     row: usize,
-) -> usize
-    ensures { (env : Environment) (plan index : List ℕ) (d₀ d n : ℕ) (m : Marks) → Holds env plan words.now rows.now tables.now index → depth ≡ d₀ + d → Emits end env d₀ (ends env d b (binding_told k) (sources_in words.now rows.now row)) out.old at n m out.new result n m }
-{
-    match k {
-        Binding::Extractor { term } => {
-            let g = extractor_sig(words, rows, tables, term);
-            put_call_end(out, at, end, b, g)
+}
+
+impl BindingRow {
+    // All that stands before the first source. Constants and arguments have none: this is all of them.
+    fn begin(self, w: &mut Sink<'_>, plan: &Plan<'_>, refs: &mut [bool])
+        ensures { VariantsIndexed plan.now → let env = env_of plan.now in (d : ℕ) → Emits env d (begins env self.number (binding_told self.binding) (sources_in plan.now self.row)) w.old (set_of refs.old) w.new (set_of refs.new) }
+    {
+        if let Some(sig) = called(plan, self.binding) {
+            return call_head(w, plan, refs, self.number, sig);
         }
-        Binding::Constructor { term } => {
-            let g = constructor_sig(words, rows, tables, term);
-            put_call_end(out, at, end, b, g)
+        match self.binding {
+            Binding::ConstBool { val } => emit_bool(w, val),
+            Binding::ConstInt { ty, high, low } => emit_int(w, TypeId(ty), Wide { high, low }),
+            Binding::ConstPrim { val } => const_prim(w, plan, val),
+            Binding::Argument { index } => argument(w, index),
+            Binding::MakeVariant { ty, variant } => {
+                let variant = TypeId(ty).variant(plan, variant);
+                variant_name(w, plan, TypeId(ty), variant.name);
+                open_fields(w, plan, self.row);
+            }
+            Binding::MakeStruct { ty } => {
+                type_name(w, plan, TypeId(ty));
+                open_fields(w, plan, self.row);
+            }
+            Binding::MakeSome => w.put_bytes(b"Some("),
+            _ => {}
         }
-        Binding::MakeVariant { .. } => close_fields(out, at, end, words, rows, depth, row),
-        Binding::MakeStruct { .. } => close_fields(out, at, end, words, rows, depth, row),
-        _ => at,
     }
-}
 
-// From the start, or from the end of the source before source i, of which `given` says whether it was a reference before it was written.
-fn put_first(
-    out: &mut [u8],
-    end: usize,
-    w: Written,
-    refs: &mut [bool],
-    plan: &[u8],
-    words: &[u32],
-    rows: &[u32],
-    tables: &[u32],
-    index: &[u32],
-    b: usize,
-    k: Binding,
-    row: usize,
-    i: usize,
-    given: bool,
-) -> Written
-    ensures { (env : Environment) (d : ℕ) → Holds env plan.now words.now rows.now tables.now index.now → Emits end env d (first_part env b (binding_told k) (sources_in words.now rows.now row) i given) out.old w.at w.odd (set_of refs.old) out.new result.at result.odd (set_of refs.new) }
-{
-    if i == 0 {
-        return begin(
-            out, end, w, refs, plan, words, rows, tables, index, b, k, row,
-        );
+    // How many sources are written.
+    fn count_sources(self, plan: &Plan<'_>) -> usize
+        ensures { result ≡ source_count (env_of plan.now) (binding_told self.binding) (sources_in plan.now self.row) }
+    {
+        if let Some(sig) = called(plan, self.binding) {
+            return parameter_count(plan, self.row, sig);
+        }
+        match self.binding {
+            Binding::ConstBool { .. }
+            | Binding::ConstInt { .. }
+            | Binding::ConstPrim { .. }
+            | Binding::Argument { .. } => 0,
+            Binding::MakeVariant { .. } | Binding::MakeStruct { .. } => plan.list_len(
+                self.row, SOURCES,
+            ),
+            _ => 1,
+        }
     }
-    let last = i - 1;
-    let q = list_word(words, rows, row, 6, last);
-    let at = put_after_source(out, w.at, end, refs, words, rows, tables, k, last, q, given);
-    Written { at: at, odd: w.odd }
-}
 
-// From there up to source i, or to the end.
-fn put_next(
-    out: &mut [u8],
-    at: usize,
-    end: usize,
-    refs: &[bool],
-    plan: &[u8],
-    words: &[u32],
-    rows: &[u32],
-    tables: &[u32],
-    index: &[u32],
-    depth: usize,
-    b: usize,
-    k: Binding,
-    row: usize,
-    i: usize,
-) -> Next
-    ensures { NextIs plan.now words.now rows.now tables.now index.now depth b (binding_told k) (sources_in words.now rows.now row) i result.q result.below × ((env : Environment) (d₀ d n : ℕ) → Holds env plan.now words.now rows.now tables.now index.now → depth ≡ d₀ + d → depth < 4611686018427387904 → Emits end env d₀ (next_part env d b (binding_told k) (sources_in words.now rows.now row) i (source_count env (binding_told k) (sources_in words.now rows.now row) - i)) out.old at n (set_of refs.now) out.new result.at n (set_of refs.now)) }
-{
-    if i < count_sources(words, rows, tables, k, row) {
-        let q = list_word(words, rows, row, 6, i);
-        let below = inner_depth(k, depth);
+    // The depth of the sources' lines. One that no number counts has no room in any buffer.
+    fn inner_depth(self, depth: usize) -> usize
+        ensures { depth < 4611686018427387904 → result ≡ inner (binding_told self.binding) depth }
+    {
+        match self.binding {
+            Binding::MakeVariant { .. } | Binding::MakeStruct { .. } => depth.saturating_add(1),
+            _ => depth,
+        }
+    }
+
+    // Before source i.
+    fn put_before(self, w: &mut Sink<'_>, plan: &Plan<'_>, depth: usize, i: usize, given: bool)
+        ensures { VariantsIndexed plan.now → let env = env_of plan.now in (d₀ d : ℕ) (m : Marks) → depth ≡ d₀ + d → Emits env d₀ (before_source env d (binding_told self.binding) i given) w.old m w.new m }
+    {
+        if let Some(sig) = called(plan, self.binding) {
+            return before_parameter(w, plan, sig, i, given);
+        }
+        match self.binding {
+            Binding::MakeVariant { ty, variant } => {
+                let variant = TypeId(ty).variant(plan, variant);
+                field_head(w, plan, depth, variant.fields, i)
+            }
+            Binding::MakeStruct { ty } => field_head(w, plan, depth, TypeId(ty).fields(plan), i),
+            _ => {}
+        }
+    }
+
+    // After source i, which is q: a parameter goes by what was known before it was written, a field is asked about now.
+    fn put_after_source(
+        self,
+        w: &mut Sink<'_>,
+        plan: &Plan<'_>,
+        refs: &[bool],
+        i: usize,
+        q: usize,
+        given: bool,
+    )
+        ensures { let env = env_of plan.now in (d : ℕ) → Emits env d (after_source env (binding_told self.binding) i q given) w.old (set_of refs.now) w.new (set_of refs.now) }
+    {
+        if let Some(sig) = called(plan, self.binding) {
+            return after_parameter(w, plan, sig, i, given);
+        }
+        match self.binding {
+            Binding::MakeVariant { .. } | Binding::MakeStruct { .. } => {
+                after_field(w, contains(refs, q))
+            }
+            _ => put_after(w, refs, q, self.binding),
+        }
+    }
+
+    // After the last source.
+    fn finish(self, w: &mut Sink<'_>, plan: &Plan<'_>, depth: usize)
+        ensures { let env = env_of plan.now in (d₀ d : ℕ) (m : Marks) → depth ≡ d₀ + d → Emits env d₀ (ends env d self.number (binding_told self.binding) (sources_in plan.now self.row)) w.old m w.new m }
+    {
+        if let Some(sig) = called(plan, self.binding) {
+            return put_call_end(w, self.number, sig);
+        }
+        if let Binding::MakeVariant { .. } | Binding::MakeStruct { .. } = self.binding {
+            close_fields(w, plan, depth, self.row);
+        }
+    }
+
+    // From the start, or from the end of the source before source i, of which `given` says whether it was a reference before it was
+    // written.
+    fn put_first(self, w: &mut Sink<'_>, plan: &Plan<'_>, refs: &mut [bool], i: usize, given: bool)
+        ensures { VariantsIndexed plan.now → let env = env_of plan.now in (d : ℕ) → Emits env d (first_part env self.number (binding_told self.binding) (sources_in plan.now self.row) i given) w.old (set_of refs.old) w.new (set_of refs.new) }
+    {
+        if i == 0 {
+            return self.begin(w, plan, refs);
+        }
+        let last = i - 1;
+        let q = plan.list_word(self.row, SOURCES, last);
+        self.put_after_source(w, plan, refs, last, q, given);
+    }
+
+    // From there up to source i, or to the end. A source that is not below its binding is none.
+    fn put_next(
+        self,
+        w: &mut Sink<'_>,
+        plan: &Plan<'_>,
+        refs: &[bool],
+        depth: usize,
+        i: usize,
+    ) -> Option<Source>
+        ensures source { NextIs plan.now depth self.number (binding_told self.binding) (sources_in plan.now self.row) i result }
+        ensures written { VariantsIndexed plan.now → let env = env_of plan.now in let qs = sources_in plan.now self.row in (d₀ d : ℕ) → depth ≡ d₀ + d → depth < 4611686018427387904 → Emits env d₀ (next_part env d self.number (binding_told self.binding) qs i (source_count env (binding_told self.binding) qs - i)) w.old (set_of refs.now) w.new (set_of refs.now) }
+    {
+        if self.count_sources(plan) <= i {
+            self.finish(w, plan, depth);
+            return None;
+        }
+        let q = plan.list_word(self.row, SOURCES, i);
+        let below = self.inner_depth(depth);
         let given = contains(refs, q);
-        let at = put_before(
-            out, at, end, plan, words, rows, tables, index, below, k, i, given,
-        );
-        return Next {
-            at: at,
-            q: q,
-            below: below,
-        };
-    }
-    let at = finish(out, at, end, words, rows, tables, depth, b, k, row);
-    Next {
-        at: at,
-        q: b,
-        below: depth,
+        self.put_before(w, plan, below, i, given);
+        (q < self.number).then_some(Source {
+            binding: q,
+            depth: below,
+        })
     }
 }
 
 // All that binding b has up to its source i, from its start or from its source before. A binding that has a name is its name. Past the
 // room nothing is written, so the time is bounded by the room.
 pub fn step(
-    out: &mut [u8],
-    at: usize,
-    odd: &mut usize,
+    w: &mut Sink<'_>,
+    plan: &Plan<'_>,
     refs: &mut [bool],
     bound: &[bool],
-    plan: &[u8],
-    words: &[u32],
-    rows: &[u32],
-    tables: &[u32],
-    index: &[u32],
-    end: usize,
     t: usize,
     depth: usize,
     b: usize,
     i: usize,
     given: bool,
-) -> Next
-    ensures { StepIs end plan.now words.now rows.now tables.now index.now (set_of bound.now) depth b (row_of words.now rows.now tables.now t b).binding (row_of words.now rows.now tables.now t b).sources i result.at result.q result.below × ((env : Environment) (d₀ d : ℕ) → Holds env plan.now words.now rows.now tables.now index.now → depth ≡ d₀ + d → depth < 4611686018427387904 → Emits end env d₀ (up_to env (set_of bound.now) d b (row_of words.now rows.now tables.now t b).binding (row_of words.now rows.now tables.now t b).sources i given) out.old at odd.old (set_of refs.old) out.new result.at odd.new (set_of refs.new)) }
+) -> Option<Source>
+    ensures source { StepIs plan.now (set_of bound.now) t depth b i w.new result }
+    ensures written { VariantsIndexed plan.now → let env = env_of plan.now in let row = row_of plan.now t b in (d₀ d : ℕ) → depth ≡ d₀ + d → depth < 4611686018427387904 → Emits env d₀ (up_to env (set_of bound.now) d b row.binding row.sources i given) w.old (set_of refs.old) w.new (set_of refs.new) }
 {
-    if end <= at {
-        return Next {
-            at: at,
-            q: b,
-            below: depth,
-        };
+    if w.end <= w.at {
+        return None;
     }
     if contains(bound, b) {
-        let at = put_var(out, at, end, b);
-        return Next {
-            at: at,
-            q: b,
-            below: depth,
-        };
+        put_var(w, b);
+        return None;
     }
-    let row = binding_row(rows, tables, t, b);
-    let k = binding_at(words, rows, row);
-    let w = Written { at: at, odd: *odd };
-    let w = put_first(
-        out, end, w, refs, plan, words, rows, tables, index, b, k, row, i, given,
-    );
-    *odd = w.odd;
-    put_next(
-        out, w.at, end, refs, plan, words, rows, tables, index, depth, b, k, row, i,
-    )
+    let row = binding_row(plan, t, b);
+    let nameless = BindingRow {
+        number: b,
+        binding: plan.binding_at(row),
+        row,
+    };
+    nameless.put_first(w, plan, refs, i, given);
+    nameless.put_next(w, plan, refs, depth, i)
 }

@@ -1,5 +1,5 @@
 -- Laws about what is kept, and about a binding's sources one after the other. Assumes nothing.
-use Prim.Native.Nat.{ℕ, zero, suc, ◌+◌, ◌-◌, ◌≤◌, ◌<◌}
+use Prim.Native.Nat.{ℕ, zero, suc, ◌+◌, ◌≤◌, ◌<◌}
 use mathlib.Core.Path.{◌≡◌, refl, sym, ap, ◌∙◌}
 use mathlib.Core.Bool.{Bool, true, false, cond, ◌&&◌, ◌||◌}
 use mathlib.Core.Logic.{◌⊎◌, inl, inr}
@@ -7,9 +7,14 @@ use mathlib.Core.List.{List, [], ◌∷◌}
 use native.Mathlib.Numerals.{add-one}
 use native.Mathlib.Omega.{arith}
 use lib.Dec.{eqb, ltb}
-use lib.ListN.{length, get_or, set, drop, replicate, drop_of_length-le, length-drop}
-use lib.Seq.{drop-cons, get_or-drop, get_or-set_same, get_or-set_other, set_out}
+use lib.ListN.{length, get_or, set, drop, replicate, drop_of_length-le}
+use lib.Seq.{drop-cons, get_or-set_same, get_or-set_other, set_out}
 use borrow.Author.Tests.{ltb-true, ltb-false, eqb-true, eqb-false}
+use Rattle.std.specs.Prelude as code
+use Rattle.std.specs.Iterator.{Yields}
+use Rattle.std.proofs.lemmas.Iterator.{YieldsList}
+use Rattle.std.proofs.lemmas.Iterator.Consumers.{YieldsList-turn}
+use Rattle.std.proofs.lemmas.List.{get_or_read}
 use Rattle.plan.specs.Plan.{Environment, Term}
 use Rattle.plan.specs.Binding.{BindingRow}
 use Rattle.view.specs.Told.{binding_told}
@@ -174,20 +179,13 @@ module _ (q : Question) (s : Bindings) (b : ℕ) where
 
 -- SOURCES ONE BY ONE
 
--- from word i of binding b's row on, what is left decides
-pub record Left (q : Question) (s : Bindings) (b : ℕ) (row : List ℕ) (i : ℕ) (k₀ k : Kept) : Type 0 where
-  pub known : Lower (bindings_of s) → Known (answer_to q s) k₀.number k₀.answers.now
-      → (any (answer_to q s) (drop i row) ≡ any (answer_to q s) (binding_at (bindings_of s) b).sources) × Known (answer_to q s) k.number k.answers.now
-  pub latest : Latest k₀.number k₀.answers.now → Latest k.number k.answers.now
-  pub number : k.number ≡ k₀.number
-
-any_cons : (f : ℕ → Bool) (row : List ℕ) (i : ℕ) → i < length row → any f (drop i row) ≡ (f (nth row i) || any f (drop (i + 1) row))
+any_cons : (f : ℕ → Bool) (qs : List ℕ) (i : ℕ) → i < length qs → any f (drop i qs) ≡ (f (nth qs i) || any f (drop (i + 1) qs))
 unfolding any
-any_cons f row i h = rw (add-one, drop-cons row i 0 h)
+any_cons f qs i h = rw (add-one, drop-cons qs i 0 h)
 
-any_end : (f : ℕ → Bool) (row : List ℕ) (i : ℕ) → length row ≤ i → any f (drop i row) ≡ false
+any_end : (f : ℕ → Bool) (qs : List ℕ) (i : ℕ) → length qs ≤ i → any f (drop i qs) ≡ false
 unfolding any
-any_end f row i h = rw (drop_of_length-le row h)
+any_end f qs i h = rw (drop_of_length-le qs h)
 
 or_true : (x y : Bool) → x ≡ true → (x || y) ≡ true
 or_true x y h = rw h refl
@@ -198,55 +196,67 @@ every_at P [] i h g = absurd (omega arith)
 every_at P (q ∷ qs) zero h g = and_left (P q) (every P qs) g
 every_at P (q ∷ qs) (suc i) h g = every_at P qs i (omega arith) (and_right (P q) (every P qs) g)
 
-module _ (q : Question) (s : Bindings) (b : ℕ) {row : List ℕ} (is : row ≡ get_or (rows_of s.plan.now s.table) b []) where
-  sources_are : drop 6 row ≡ (binding_at (bindings_of s) b).sources
+-- a loop over a row's words: the next word is the next of the list
+pub word_at : {S A : Type 0} {steps : S → code.Option A → S → Type 0} {v : A → ℕ} {first : S} {list : List ℕ} → YieldsList steps v first list → (words : List A) (before : S) → Yields steps first words before
+    → (next : code.Option A) (after : S) (word : A) → next ≡ code.Some word → steps before next after → (length words < length list) × (v word ≡ nth list (length words))
+word_at {v = v} {list = list} l words before y next after word h g =
+    let turn = YieldsList-turn l words before y next after word h g in
+    (turn.0, get_or_read list (length words) (v word) turn.0 turn.1 0)
+
+-- the sources of binding b; they stand after six words of its row
+abbrev pub sources_of : Bindings → ℕ → List ℕ
+sources_of s b = (binding_at (bindings_of s) b).sources
+
+module _ (s : Bindings) (b : ℕ) {row : List ℕ} (is : row ≡ get_or (rows_of s.plan.now s.table) b []) where
+  pub sources_yielded : {S A : Type 0} {steps : S → code.Option A → S → Type 0} {v : A → ℕ} {first : S} → YieldsList steps v first (drop 6 row) → YieldsList steps v first (sources_of s b)
   unfolding binding_of
-  sources_are = ap (drop 6) is ∙ ap (λ (x : BindingRow). x.sources) (sym (binding_is (rows_of s.plan.now s.table) b))
+  sources_yielded l = let e : drop 6 row ≡ sources_of s b = ap (drop 6) is ∙ ap (λ (x : BindingRow). x.sources) (sym (binding_is (rows_of s.plan.now s.table) b)) in rw e at l
 
-  pub left_start : {k : Kept} → Left q s b row 6 k k
-  left_start = record { known = λ l k. (ap (any (answer_to q s)) sources_are, k); latest = λ k. k; number = refl }
+-- from source i of binding b on, what is left decides
+pub record Left (q : Question) (s : Bindings) (b i : ℕ) (k₀ k : Kept) : Type 0 where
+  pub known : Lower (bindings_of s) → Known (answer_to q s) k₀.number k₀.answers.now
+      → (any (answer_to q s) (drop i (sources_of s b)) ≡ any (answer_to q s) (sources_of s b)) × Known (answer_to q s) k.number k.answers.now
+  pub latest : Latest k₀.number k₀.answers.now → Latest k.number k.answers.now
+  pub number : k.number ≡ k₀.number
 
-  -- each source is below its binding
-  pub left_lower : {i : ℕ} {k₀ k : Kept} → 6 ≤ i → i < length row → b ≤ nth row i → Left q s b row i k₀ k → Left q s b row (i + 1) k₀ k
-  left_lower {i} six h g w = record {
-    known = λ l x.
-        let low : every (λ q. ltb q b) (drop 6 row) ≡ true = ap (every (λ q. ltb q b)) sources_are ∙ l.each b in
-        absurd (omega (arith, ltb-true (nth row i) b (word_low low)));
-    latest = w.latest;
-    number = w.number;
-  }
-    where
-      word_low : every (λ q. ltb q b) (drop 6 row) ≡ true → ltb (nth row i) b ≡ true
-      word_low e =
-          let z : 6 + (i - 6) ≡ i = omega arith in
-          rw (← z) (rw (← get_or-drop 6 row (i - 6) 0) (every_at (λ q. ltb q b) (drop 6 row) (i - 6) (rw length-drop (omega arith)) e))
+module _ {q : Question} {s : Bindings} {b : ℕ} where
+  pub left_start : {k : Kept} → Left q s b 0 k k
+  left_start = record { known = λ l k. (refl, k); latest = λ k. k; number = refl }
 
-module _ {q : Question} {s : Bindings} {b : ℕ} {row : List ℕ} {i : ℕ} {k₀ k : Kept} (w : Left q s b row i k₀ k) where
-  -- a source that has it
-  pub left_found : {k' : Kept} → i < length row → Finds q s (λ f. f (nth row i)) k k' true → Finds q s (λ f. any f (binding_at (bindings_of s) b).sources) k₀ k' true
-  left_found h f = record {
-    known = λ l x.
-        let u = w.known l x in
-        let v = f.known l u.1 in
-        (sym (sym u.0 ∙ any_cons (answer_to q s) row i h ∙ or_true _ _ (sym v.0)), v.1);
-    latest = λ x. f.latest (w.latest x);
-    number = f.number ∙ w.number;
-  }
+  module _ {i : ℕ} {k₀ k : Kept} (h : i < length (sources_of s b)) (w : Left q s b i k₀ k) where
+    -- each source is below its binding
+    pub left_lower : b ≤ nth (sources_of s b) i → Left q s b (i + 1) k₀ k
+    left_lower g = record {
+      known = λ l x. absurd (omega (arith, ltb-true (nth (sources_of s b) i) b (every_at (λ q. ltb q b) (sources_of s b) i h (l.each b))));
+      latest = w.latest;
+      number = w.number;
+    }
 
-  -- a source that has not
-  pub left_next : {k' : Kept} → i < length row → Finds q s (λ f. f (nth row i)) k k' false → Left q s b row (i + 1) k₀ k'
-  left_next h f = record {
-    known = λ l x.
-        let u = w.known l x in
-        let v = f.known l u.1 in
-        (sym (any_cons (answer_to q s) row i h ∙ rw (← v.0) refl) ∙ u.0, v.1);
-    latest = λ x. f.latest (w.latest x);
-    number = f.number ∙ w.number;
-  }
+    -- a source that has it
+    pub left_found : {k' : Kept} → Finds q s (λ f. f (nth (sources_of s b) i)) k k' true → Finds q s (λ f. any f (sources_of s b)) k₀ k' true
+    left_found f = record {
+      known = λ l x.
+          let u = w.known l x in
+          let v = f.known l u.1 in
+          (sym (sym u.0 ∙ any_cons (answer_to q s) (sources_of s b) i h ∙ or_true _ _ (sym v.0)), v.1);
+      latest = λ x. f.latest (w.latest x);
+      number = f.number ∙ w.number;
+    }
 
-  pub left_none : length row ≤ i → Finds q s (λ f. any f (binding_at (bindings_of s) b).sources) k₀ k false
-  left_none h = record {
-    known = λ l x. let u = w.known l x in (sym (any_end (answer_to q s) row i h) ∙ u.0, u.1);
+    -- a source that has not
+    pub left_next : {k' : Kept} → Finds q s (λ f. f (nth (sources_of s b) i)) k k' false → Left q s b (i + 1) k₀ k'
+    left_next f = record {
+      known = λ l x.
+          let u = w.known l x in
+          let v = f.known l u.1 in
+          (sym (any_cons (answer_to q s) (sources_of s b) i h ∙ rw (← v.0) refl) ∙ u.0, v.1);
+      latest = λ x. f.latest (w.latest x);
+      number = f.number ∙ w.number;
+    }
+
+  pub left_none : {i : ℕ} {k₀ k : Kept} → length (sources_of s b) ≤ i → Left q s b i k₀ k → Finds q s (λ f. any f (sources_of s b)) k₀ k false
+  left_none {i} h w = record {
+    known = λ l x. let u = w.known l x in (sym (any_end (answer_to q s) (sources_of s b) i h) ∙ u.0, u.1);
     latest = w.latest;
     number = w.number;
   }

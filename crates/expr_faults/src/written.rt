@@ -10,6 +10,7 @@ use super::kept::Kept;
 use emits::stablemapset::contains;
 use view::binding::Binding;
 use view::buffers::Plan;
+use view::tables::TERMS;
 
 // The bindings of a generated term: those of this table.
 #[derive(Clone, Copy)]
@@ -31,7 +32,7 @@ pub struct Question<'a> {
 fn is_multi(plan: &Plan<'_>, m: usize) -> bool
     ensures { result ≡ (term_at (env_of plan.now) m).multi }
 {
-    plan.flag(plan.row_at(6, m), 3)
+    plan.flag(plan.row_at(TERMS, m), 3)
 }
 
 // Whether row r, a binding's, is a call that returns many: `extract` or `construct` of such a term.
@@ -111,8 +112,8 @@ pub fn source_holds(
     ensures { Finds question.now bindings.now (λ f. any f (binding_at (bindings_of bindings.now) b).sources) kept.old kept.new result }
 {
     let row = bindings.plan.row(bindings.plan.row_at(bindings.table, b));
-    for k in 6..row.len() {
-        let q = view::wide(row[k]);
+    for word in row.iter().skip(6) {
+        let q = *word as usize;
         if b <= q {
             continue;
         }

@@ -1,263 +1,179 @@
 // What an expression is made of beside its sources.
-#![tactic(auto)]
+#![tactic(auto, using(emits::specs::Emitted::emitted), unfolding(codegen::specs::Piece::odd_pieces, codegen::specs::Piece::odd_piece))]
 
-ghost use Rattle.std.specs.Prelude.{ℕ, ◌+◌, ◌≤◌, min, ◌≡◌, refl, cond, not, ◌&&◌, List, [], ◌∷◌, ◌++◌, length, get_or};
+ghost use Rattle.std.specs.Prelude.{ℕ, ◌+◌, min, ◌≡◌, refl, cond, not, ◌&&◌, [], ◌∷◌, ◌++◌, length, get_or};
 ghost use Rattle.plan.specs.Plan.{Environment};
 ghost use Rattle.codegen.specs.Piece.{fix, sym, type, num, var, break};
 ghost use Rattle.codegen.specs.ReturnKind.{by_return_kind};
 ghost use Rattle.codegen.specs.Sema.{field_name};
-ghost use Rattle.codegen.specs.Writer.{Marks, say, mark, ask, ◌▸◌, nothing};
+ghost use Rattle.codegen.specs.Writer.{say, mark, ask, ◌▸◌, nothing};
 ghost use Rattle.codegen.specs.Expr.{returns_ref};
-ghost use Rattle.layout.specs.View.{cut};
-ghost use Rattle.view.specs.Tables.{table_rows};
-ghost use Rattle.emits.specs.Emits.{Emits, Shows};
-ghost use Rattle.emits.specs.Marks.{set_of};
-ghost use Rattle.sema.specs.Holds.{Holds};
-ghost use Rattle.sema.specs.Fields.{fields_held};
-ghost use Rattle.sema.specs.Signature.{sig_told};
+ghost use Rattle.view.specs.Buffers.{words_of, rows_of, env_of};
 ghost use Rattle.view.specs.Told.{binding_told};
+ghost use Rattle.emits.specs.Marks.{set_of};
+ghost use Rattle.emits.specs.Runs.{Emits};
+ghost use Rattle.emits.specs.Sinks.{Shows};
+ghost use Rattle.sema.specs.Fields.{fields_read};
+ghost use Rattle.sema.specs.Signature.{sig_told};
 ghost use Rattle.expr_parts.specs.Sources.{sources_in, after_one};
 
-use emits::Written;
+use consts::pieces::put_var;
 use emits::stablemapset::{contains, insert};
-use sema::fields::{Fields, put_field_name};
-use sema::names::put_sym;
-use sema::signature::{ExternalSig, ReturnKind, param_count, ret_count, ret_ty};
-use sema::types::{is_ref, put_type};
-use text::number::put_decimal;
-use text::sink::{put_byte, put_bytes, put_indent};
+use sema::fields::Fields;
+use sema::signature::{ExternalSig, ReturnKind};
+use sema::texts::{Text, put_text};
+use sema::types::TypeId;
+use text::sink::Sink;
 use view::binding::Binding;
-use view::{list_len, row_at};
+use view::buffers::Plan;
+
+// How many words stand before the sources in a binding's row.
+pub const SOURCES: usize = 6;
 
 // The row of binding b of the generated term whose first table is t; where there is none, a number that no row has.
-pub fn binding_row(rows: &[u32], tables: &[u32], t: usize, b: usize) -> usize
-    ensures { (words : List ℕ) → cut words rows.now result ≡ get_or (table_rows words rows.now tables.now (t + 1)) b [] }
+#[tactic(auto, using(crate::proofs::Laws::row_past))]
+pub fn binding_row(plan: &Plan<'_>, t: usize, b: usize) -> usize
+    ensures { words_of plan.now result ≡ get_or (rows_of plan.now (t + 1)) b [] }
 {
-    if t < tables.len() {
-        return row_at(rows, tables, t + 1, b);
+    if t < plan.tables.len() {
+        plan.row_at(t + 1, b)
+    } else {
+        plan.rows.len()
     }
-    rows.len()
 }
 
-pub fn const_prim(
-    out: &mut [u8],
-    end: usize,
-    w: Written,
-    plan: &[u8],
-    words: &[u32],
-    rows: &[u32],
-    tables: &[u32],
-    val: usize,
-) -> Written
-    ensures { (env : Environment) (index : List ℕ) (d : ℕ) (q : Marks) → Holds env plan.now words.now rows.now tables.now index → Emits end env d (say (sym val ∷ [])) out.old w.at w.odd q out.new result.at result.odd q }
+pub fn const_prim(w: &mut Sink<'_>, plan: &Plan<'_>, val: usize)
+    ensures { let env = env_of plan.now in (d : ℕ) → Shows env d (sym val ∷ []) w.old w.new }
 {
-    let at = put_sym(out, w.at, end, plan, words, rows, tables, val);
-    Written { at: at, odd: w.odd }
+    put_text(w, plan, Text::Sym, val);
 }
 
-pub fn argument(out: &mut [u8], end: usize, w: Written, i: usize) -> Written
-    ensures { (env : Environment) (d : ℕ) (q : Marks) → Emits end env d (say (fix "arg" refl ∷ num i ∷ [])) out.old w.at w.odd q out.new result.at result.odd q }
+pub fn argument(w: &mut Sink<'_>, i: usize)
+    ensures { (env : Environment) (d : ℕ) → Shows env d (fix "arg" refl ∷ num i ∷ []) w.old w.new }
 {
-    let at = put_bytes(out, w.at, end, b"arg");
-    let at = put_decimal(out, at, end, i as u64);
-    Written { at: at, odd: w.odd }
+    w.put_bytes(b"arg");
+    w.put_decimal(i as u64);
 }
 
 // After the source of `MatchSome`: `?` on a reference needs `.as_ref()`.
-fn put_try(out: &mut [u8], at: usize, end: usize, refs: &[bool], q: usize) -> usize
-    ensures { (env : Environment) (d n : ℕ) → Emits end env d (ask q (λ x. say (cond x (fix ".as_ref()?" refl) (fix "?" refl) ∷ []))) out.old at n (set_of refs.now) out.new result n (set_of refs.now) }
+fn put_try(w: &mut Sink<'_>, refs: &[bool], q: usize)
+    ensures { (env : Environment) (d : ℕ) → Emits env d (ask q (λ x. say (cond x (fix ".as_ref()?" refl) (fix "?" refl) ∷ []))) w.old (set_of refs.now) w.new (set_of refs.now) }
 {
     if contains(refs, q) {
-        return put_bytes(out, at, end, b".as_ref()?");
+        w.put_bytes(b".as_ref()?");
+    } else {
+        w.put_bytes(b"?");
     }
-    put_bytes(out, at, end, b"?")
 }
 
-// After a source's `.` the field's number.
-fn put_field(out: &mut [u8], at: usize, end: usize, field: usize) -> usize
-    ensures { (env : Environment) (d n : ℕ) (q : Marks) → Emits end env d (say (fix "." refl ∷ num field ∷ [])) out.old at n q out.new result n q }
+// After a source's `.` the field's number. Like `argument` and `put_var`, a text and a number.
+fn put_field(w: &mut Sink<'_>, field: usize)
+    ensures { (env : Environment) (d : ℕ) → Shows env d (fix "." refl ∷ num field ∷ []) w.old w.new }
 {
-    let at = put_bytes(out, at, end, b".");
-    put_decimal(out, at, end, field as u64)
+    w.put_bytes(b".");
+    w.put_decimal(field as u64);
 }
 
 // These kinds are not supposed to be written: codegen.rs has the generated text fail to compile.
-fn put_fixme_field(out: &mut [u8], at: usize, end: usize, field: usize) -> usize
-    ensures { (env : Environment) (d n : ℕ) (q : Marks) → Emits end env d (say (fix "." refl ∷ num field ∷ fix " /*FIXME*/" refl ∷ [])) out.old at n q out.new result n q }
+fn put_fixme_field(w: &mut Sink<'_>, field: usize)
+    ensures { (env : Environment) (d : ℕ) → Shows env d (fix "." refl ∷ num field ∷ fix " /*FIXME*/" refl ∷ []) w.old w.new }
 {
-    let at = put_bytes(out, at, end, b".");
-    let at = put_decimal(out, at, end, field as u64);
-    put_bytes(out, at, end, b" /*FIXME*/")
+    put_field(w, field);
+    w.put_bytes(b" /*FIXME*/");
 }
 
 // What stands after the source of a kind that has one.
-pub fn put_after(
-    out: &mut [u8],
-    at: usize,
-    end: usize,
-    refs: &[bool],
-    q: usize,
-    k: Binding,
-) -> usize
-    ensures { (env : Environment) (d n : ℕ) → Emits end env d (after_one (binding_told k) q) out.old at n (set_of refs.now) out.new result n (set_of refs.now) }
+pub fn put_after(w: &mut Sink<'_>, refs: &[bool], q: usize, k: Binding)
+    ensures { (env : Environment) (d : ℕ) → Emits env d (after_one (binding_told k) q) w.old (set_of refs.now) w.new (set_of refs.now) }
 {
     match k {
-        Binding::Iterator => put_bytes(out, at, end, b".next() /*FIXME*/"),
-        Binding::MakeSome => put_bytes(out, at, end, b")"),
-        Binding::MatchSome => put_try(out, at, end, refs, q),
-        Binding::MatchTuple { field } => put_field(out, at, end, field),
-        Binding::MatchVariant { field } => put_fixme_field(out, at, end, field),
-        Binding::ExtractStruct { field } => put_fixme_field(out, at, end, field),
-        _ => at,
+        Binding::Iterator => w.put_bytes(b".next() /*FIXME*/"),
+        Binding::MakeSome => w.put_bytes(b")"),
+        Binding::MatchSome => put_try(w, refs, q),
+        Binding::MatchTuple { field } => put_field(w, field),
+        Binding::MatchVariant { field } | Binding::ExtractStruct { field } => {
+            put_fixme_field(w, field)
+        }
+        _ => {}
     }
 }
 
-// Before a value of which a reference is wanted, if it is none.
-pub fn put_borrow(out: &mut [u8], at: usize, end: usize, wanted: bool, given: bool) -> usize
-    ensures { (env : Environment) (d : ℕ) → Shows end env d (cond (wanted && not given) (fix "&" refl ∷ []) []) out.old at out.new result }
+// Before a value of which a reference is wanted, if it is none. `put_clone` has another text, and the test the other way round.
+pub fn put_borrow(w: &mut Sink<'_>, wanted: bool, given: bool)
+    ensures { (env : Environment) (d : ℕ) → Shows env d (cond (wanted && not given) (fix "&" refl ∷ []) []) w.old w.new }
 {
-    if wanted {
-        if given {
-            return at;
-        }
-        return put_bytes(out, at, end, b"&");
+    if wanted && !given {
+        w.put_bytes(b"&");
     }
-    at
 }
 
 // After a reference of which the value is wanted.
-pub fn put_clone(out: &mut [u8], at: usize, end: usize, wanted: bool, given: bool) -> usize
-    ensures { (env : Environment) (d : ℕ) → Shows end env d (cond (given && not wanted) (fix ".clone()" refl ∷ []) []) out.old at out.new result }
+pub fn put_clone(w: &mut Sink<'_>, wanted: bool, given: bool)
+    ensures { (env : Environment) (d : ℕ) → Shows env d (cond (given && not wanted) (fix ".clone()" refl ∷ []) []) w.old w.new }
 {
-    if given {
-        if wanted {
-            return at;
-        }
-        return put_bytes(out, at, end, b".clone()");
+    if given && !wanted {
+        w.put_bytes(b".clone()");
     }
-    at
 }
 
 // The names before a struct's and a variant's fields.
-pub fn type_name(
-    out: &mut [u8],
-    end: usize,
-    w: Written,
-    plan: &[u8],
-    words: &[u32],
-    rows: &[u32],
-    tables: &[u32],
-    ty: usize,
-) -> Written
-    ensures { (env : Environment) (index : List ℕ) (d : ℕ) (q : Marks) → Holds env plan.now words.now rows.now tables.now index → Emits end env d (say (type ty ∷ [])) out.old w.at w.odd q out.new result.at result.odd q }
+pub fn type_name(w: &mut Sink<'_>, plan: &Plan<'_>, ty: TypeId)
+    ensures { let env = env_of plan.now in (d : ℕ) → Shows env d (type ty.0 ∷ []) w.old w.new }
 {
-    let at = put_type(out, w.at, end, plan, words, rows, tables, ty);
-    Written { at: at, odd: w.odd }
+    ty.put_name(w, plan);
 }
 
-pub fn variant_name(
-    out: &mut [u8],
-    end: usize,
-    w: Written,
-    plan: &[u8],
-    words: &[u32],
-    rows: &[u32],
-    tables: &[u32],
-    ty: usize,
-    name: usize,
-) -> Written
-    ensures { (env : Environment) (index : List ℕ) (d : ℕ) (q : Marks) → Holds env plan.now words.now rows.now tables.now index → Emits end env d (say (type ty ∷ fix "::" refl ∷ sym name ∷ [])) out.old w.at w.odd q out.new result.at result.odd q }
+pub fn variant_name(w: &mut Sink<'_>, plan: &Plan<'_>, ty: TypeId, name: usize)
+    ensures { let env = env_of plan.now in (d : ℕ) → Shows env d (type ty.0 ∷ fix "::" refl ∷ sym name ∷ []) w.old w.new }
 {
-    let typed = put_type(out, w.at, end, plan, words, rows, tables, ty);
-    let at = put_bytes(out, typed, end, b"::");
-    let at = put_sym(out, at, end, plan, words, rows, tables, name);
-    Written { at: at, odd: w.odd }
+    type_name(w, plan, ty);
+    w.put_bytes(b"::");
+    put_text(w, plan, Text::Sym, name);
 }
 
 // Whether a call's result is a reference: one type is returned, and that is one.
 #[tactic(auto, using(crate::proofs::Laws::returns_first, crate::proofs::Laws::returns_others))]
-fn returns_ref(words: &[u32], rows: &[u32], tables: &[u32], sig: ExternalSig) -> bool
-    ensures { (env : Environment) (plan index : List ℕ) → Holds env plan words.now rows.now tables.now index → result ≡ returns_ref env (sig_told env sig).ret_tys }
+fn returns_ref(plan: &Plan<'_>, sig: ExternalSig) -> bool
+    ensures { let env = env_of plan.now in result ≡ returns_ref env (sig_told env sig).ret_tys }
 {
-    if ret_count(words, rows, tables, sig) == 1 {
-        return is_ref(words, rows, tables, ret_ty(words, rows, tables, sig, 0));
-    }
-    false
+    sig.ret_count(plan) == 1 && sig.ret_ty(plan, 0).is_ref(plan)
 }
 
 // A result that is a reference is marked, and `&` written.
-pub fn mark_result(
-    out: &mut [u8],
-    at: usize,
-    end: usize,
-    refs: &mut [bool],
-    words: &[u32],
-    rows: &[u32],
-    tables: &[u32],
-    b: usize,
-    sig: ExternalSig,
-) -> usize
-    ensures { (env : Environment) (plan index : List ℕ) (d n : ℕ) → Holds env plan words.now rows.now tables.now index → Emits end env d (cond (returns_ref env (sig_told env sig).ret_tys) (mark b ▸ say (fix "&" refl ∷ [])) nothing) out.old at n (set_of refs.old) out.new result n (set_of refs.new) }
+pub fn mark_result(w: &mut Sink<'_>, plan: &Plan<'_>, refs: &mut [bool], b: usize, sig: ExternalSig)
+    ensures { let env = env_of plan.now in (d : ℕ) → Emits env d (cond (returns_ref env (sig_told env sig).ret_tys) (mark b ▸ say (fix "&" refl ∷ [])) nothing) w.old (set_of refs.old) w.new (set_of refs.new) }
 {
-    if returns_ref(words, rows, tables, sig) {
+    if returns_ref(plan, sig) {
         insert(refs, b);
-        return put_bytes(out, at, end, b"&");
+        w.put_bytes(b"&");
     }
-    at
 }
 
 // How many parameters a call writes: as many as there are both sources and types.
-pub fn parameter_count(
-    words: &[u32],
-    rows: &[u32],
-    tables: &[u32],
-    row: usize,
-    sig: ExternalSig,
-) -> usize
-    ensures { (result ≤ length (sources_in words.now rows.now row)) × ((env : Environment) (plan index : List ℕ) → Holds env plan words.now rows.now tables.now index → result ≡ min (length (sources_in words.now rows.now row)) (length (sig_told env sig).param_tys)) }
+pub fn parameter_count(plan: &Plan<'_>, row: usize, sig: ExternalSig) -> usize
+    ensures { result ≡ min (length (sources_in plan.now row)) (length (sig_told (env_of plan.now) sig).param_tys) }
 {
-    let sources = list_len(words, rows, row, 6);
-    let types = param_count(words, rows, tables, sig);
-    if sources < types {
-        return sources;
-    }
-    types
+    plan.list_len(row, SOURCES).min(sig.param_count(plan))
 }
 
 // The end of a call: an iterator's takes the binding's own name.
-pub fn put_call_end(out: &mut [u8], at: usize, end: usize, b: usize, sig: ExternalSig) -> usize
-    ensures { (env : Environment) (d : ℕ) → Shows end env d (by_return_kind (sig_told env sig).ret_kind (fix ", &mut " refl ∷ var b ∷ []) [] [] ++ (fix ")" refl ∷ [])) out.old at out.new result }
+#[tactic(auto, using(emits::specs::Emitted::shown, consts::specs::EmitsLaws::shows_var_put), unfolding(codegen::specs::ReturnKind::by_return_kind))]
+pub fn put_call_end(w: &mut Sink<'_>, b: usize, sig: ExternalSig)
+    ensures { (env : Environment) (d : ℕ) → Shows env d (by_return_kind (sig_told env sig).ret_kind (fix ", &mut " refl ∷ var b ∷ []) [] [] ++ (fix ")" refl ∷ [])) w.old w.new }
 {
-    let k = sig.ret_kind;
-    match k {
-        ReturnKind::Iterator => {
-            let at = put_bytes(out, at, end, b", &mut ");
-            let at = put_bytes(out, at, end, b"v");
-            let at = put_decimal(out, at, end, b as u64);
-            put_bytes(out, at, end, b")")
-        }
-        ReturnKind::Option => put_bytes(out, at, end, b")"),
-        ReturnKind::Plain => put_bytes(out, at, end, b")"),
+    if matches!(sig.ret_kind, ReturnKind::Iterator) {
+        w.put_bytes(b", &mut ");
+        put_var(w, b);
     }
+    w.put_bytes(b")");
 }
 
 // The line of field i up to its value.
-pub fn field_head(
-    out: &mut [u8],
-    at: usize,
-    end: usize,
-    plan: &[u8],
-    words: &[u32],
-    rows: &[u32],
-    tables: &[u32],
-    depth: usize,
-    f: Fields,
-    i: usize,
-) -> usize
-    ensures { (env : Environment) (index : List ℕ) (d₀ d : ℕ) → Holds env plan.now words.now rows.now tables.now index → depth ≡ d₀ + d → Shows end env d₀ (break d ∷ field_name (fields_held words.now rows.now f) i ∷ fix ": " refl ∷ []) out.old at out.new result }
+pub fn field_head(w: &mut Sink<'_>, plan: &Plan<'_>, depth: usize, f: Fields, i: usize)
+    ensures { let env = env_of plan.now in (d₀ d : ℕ) → depth ≡ d₀ + d → Shows env d₀ (break d ∷ field_name (fields_read plan.now f) i ∷ fix ": " refl ∷ []) w.old w.new }
 {
-    let at = put_byte(out, at, end, 10);
-    let at = put_indent(out, at, end, depth);
-    let at = put_field_name(out, at, end, plan, words, rows, tables, f, i);
-    put_bytes(out, at, end, b": ")
+    w.put_byte(b'\n');
+    w.put_indent(depth);
+    f.put_name(w, plan, i);
+    w.put_bytes(b": ");
 }

@@ -17,7 +17,8 @@ use Rattle.codegen.specs.Terms.{no_marks}
 use Rattle.origin.specs.Names.{Scope, Names, after_list, opens, keep, at_row, past}
 use Rattle.rows.specs.View.{nth, step_made, block_of}
 use Rattle.emits.specs.Marks.{set_of}
-use Rattle.row_frames.specs.Rows.{rows_next, rows_none, level_is, step_is, Shallow}
+use Rattle.row_frames.specs.Rows.{rows_next, rows_none, Shallow}
+use Rattle.view.specs.BlockRows.{level_is, step_is}
 use Rattle.row_frames.specs.Told.{purpose_told, opens_told, opening, opened as opened_purpose}
 use Rattle.schedule_rules.specs.Faults.{Letters, row_faults, block_faults, no_names}
 use Rattle.schedule_rules.specs.Found.{Lower}

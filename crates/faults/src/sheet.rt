@@ -7,9 +7,11 @@ ghost use Rattle.schedule_rules.specs.Sheet.{sheet};
 ghost use Rattle.faults.specs.Terms.{TermPut};
 
 use super::walk::put_block;
+use checks::tables::generated_count;
 use expr_faults::written::Bindings;
 use text::sink::Sink;
 use view::buffers::Plan;
+use view::tables::GENERATED;
 
 // The lines of the generated term whose tables are t, t + 1 and t + 2.
 fn put_term(w: &mut Sink<'_>, scopes: &mut [[bool; 1024]; 65], plan: &Plan<'_>, t: usize)
@@ -29,13 +31,13 @@ fn put_term(w: &mut Sink<'_>, scopes: &mut [[bool; 1024]; 65], plan: &Plan<'_>, 
 }
 
 // The sheet of the plan that the buffers hold: their first seven tables are its environment, and three follow for each generated term.
-// `tables` has one entry more than there are tables.
+#[tactic(auto, using(checks::proofs::Tests::terms_count))]
 pub fn put_sheet(w: &mut Sink<'_>, plan: &Plan<'_>)
     ensures { Passes (plan_of plan.now) → Writes (sheet (plan_of plan.now)) w.old w.new }
 {
     let mut scopes = [[false; 1024]; 65];
     w.put_bytes(b"term row fault\n");
-    for i in 0..plan.tables.len().saturating_sub(8) / 3 {
-        put_term(w, &mut scopes, plan, 7 + 3 * i);
+    for i in 0..generated_count(plan) {
+        put_term(w, &mut scopes, plan, GENERATED + 3 * i);
     }
 }

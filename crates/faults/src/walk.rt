@@ -46,7 +46,7 @@ pub fn put_block(
             return;
         }
         let f = stack[d];
-        let level = view::wide(bindings.plan.cell(r, 0));
+        let level = bindings.plan.cell(r, 0) as usize;
         if level < f.level {
             bound = scopes[d];
             d -= 1;

@@ -21,7 +21,8 @@ pub struct Filled {
 }
 
 // The buffers into which a plan is read, and how much of each is filled: the words of all rows, where each row ends, and where each
-// table's rows end. The caller lends them: what a plan can hold is limited, and nothing is allocated (document 01).
+// table's rows end. The caller lends them: what a plan can hold is limited, and nothing is allocated (document 01). So each function that
+// has such arrays makes its own value of them.
 #[derive(Drop)]
 pub struct Buffers<'a> {
     pub words: &'a mut [u32],
@@ -51,7 +52,7 @@ pub fn table_at(i: usize) -> Table
     }
 }
 
-// The names line of a sort of table.
+// The names line of a sort of table: a table of texts.
 #[tactic(auto, unfolding(crate::specs::Scan::names))]
 fn names(table: Table) -> &'static [u8]
     ensures { result.now ≡ names (table_number table) }
@@ -70,7 +71,8 @@ fn names(table: Table) -> &'static [u8]
     }
 }
 
-// Writes a row's words from a place of a buffer on: where they end.
+// Writes a row's words from a place of a buffer on: where they end. Here `Words`, which holds a buffer with its place, is
+// lent the buffer.
 fn put_words(table: Table, from: usize, line: &[u8], out: &mut [u32], at: usize) -> Option<usize>
     requires { from + length line.now < 4294967296 }
     ensures { Wrote out.old (Some at) (row_words (table_number table) from line.now) result out.new }
@@ -133,7 +135,8 @@ impl Buffers<'_> {
         }
     }
 
-    // Writes the words of all rows to words, where each row ends to rows, and where each table's rows end to tables.
+    // Writes the words of all rows to words, where each row ends to rows, and where each table's rows end to tables. Where the next table
+    // begins is what the one before it says, and so there is no `for`.
     pub fn fill(&mut self, s: &[u8]) -> Option<Filled>
         requires { (length s.now ≤ 65536) × (length s.now ≤ length self.old.words.now)
             × (length s.now + 2 ≤ 2 * length self.old.rows.now) × (length s.now + 4 ≤ 4 * length self.old.tables.now) }

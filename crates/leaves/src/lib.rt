@@ -13,14 +13,21 @@ ghost use Rattle.literal.specs.Quote.{quoted};
 use literal::builtin_type::BuiltinType;
 use literal::literal::{emit_int, is_odd};
 use literal::quote::put_quoted;
-use text::number::{Wide, put_decimal};
+use text::number::Wide;
 use text::sink::Sink;
 
 #[unsafe(no_mangle)]
 pub extern "C" fn rizhavel_put_decimal(out: &mut [u8], at: usize, end: usize, n: u64) -> usize
     ensures { Puts end (decimal n) out.old at out.new result }
 {
-    put_decimal(out, at, end, n)
+    let mut w = Sink {
+        out,
+        at,
+        end,
+        odd: 0,
+    };
+    w.put_decimal(n);
+    w.at
 }
 
 #[unsafe(no_mangle)]

@@ -6,7 +6,7 @@ use Rattle.emits.specs.Marks.{set_of}
 use Rattle.context.specs.Context.{SetRef, deeper, shallower, counted}
 use Rattle.context.specs.declared.body_context.Nesting.{Nesting}
 use Rattle.context.specs.declared.body_context.BodyContext.{BodyContext}
-use Rattle.lent_context.specs.Steps.{Bind, begun, closed, numbered}
+use Rattle.context.specs.Steps.{Bind, begun, closed, numbered}
 use Rattle.lent_context.specs.Block.{BlockSteps}
 
 back : (n : Nesting) → shallower (counted (deeper n)) ≡ counted n

@@ -1,9 +1,9 @@
-// The steps of one block in a row, over a lent state and by value. A caller passes the state by value, and needs no walk.
+// The steps of one block in a row, over a lent state and by value: document 01 names both, and `both_ways` shows that they give one state.
 ghost use Rattle.std.specs.Prelude.{◌≡◌, ◌<◌};
 ghost use Rattle.lent_context.specs.Block.{BlockSteps};
 
-use crate::body_context::{begin_block, bind, count_split, end_block, enter_scope, set_ref};
 use context::body_context::BodyContext;
+use context::by_value;
 
 // The steps around an arm: its scope is entered (codegen.rs 867) and its block begun (871), a binding is marked (562) and has a name (737),
 // a closure is numbered (885), and the block ends (904).
@@ -12,12 +12,12 @@ pub fn block_steps(context: BodyContext, binding: usize, is_ref: bool) -> BodyCo
     ensures { BlockSteps context binding is_ref result }
 {
     let mut state = context;
-    let scope = enter_scope(&mut state);
-    begin_block(&mut state);
-    set_ref(&mut state, binding, is_ref);
-    bind(&mut state, binding);
-    count_split(&mut state);
-    end_block(&mut state, scope);
+    let scope = state.enter_scope();
+    state.begin_block();
+    state.set_ref(binding, is_ref);
+    state.bind(binding);
+    state.count_split();
+    state.end_block(scope);
     state
 }
 
@@ -26,12 +26,12 @@ pub fn block_steps_by_value(context: BodyContext, binding: usize, is_ref: bool) 
     requires { (context.nesting.depth < 4096) × (context.nesting.match_split < 4294967296) }
     ensures { BlockSteps context binding is_ref result }
 {
-    let scope = crate::by_value::enter_scope(context);
-    let begun = crate::by_value::begin_block(context);
-    let marked = begun.set_ref(binding, is_ref);
-    let bound = crate::by_value::bind(marked, binding);
-    let counted = crate::by_value::count_split(bound);
-    crate::by_value::end_block(counted, scope)
+    let scope = by_value::enter_scope(context);
+    let begun = by_value::begin_block(context);
+    let marked = by_value::set_ref(begun, binding, is_ref);
+    let bound = by_value::bind(marked, binding);
+    let counted = by_value::count_split(bound);
+    by_value::end_block(counted, scope)
 }
 
 #[derive(Clone, Copy)]
@@ -45,10 +45,8 @@ pub fn both_ways(context: BodyContext, binding: usize, is_ref: bool) -> BothWays
     requires { (context.nesting.depth < 4096) × (context.nesting.match_split < 4294967296) }
     ensures { result.lent ≡ result.by_value }
 {
-    let lent = block_steps(context, binding, is_ref);
-    let by_value = block_steps_by_value(context, binding, is_ref);
     BothWays {
-        lent: lent,
-        by_value: by_value,
+        lent: block_steps(context, binding, is_ref),
+        by_value: block_steps_by_value(context, binding, is_ref),
     }
 }

@@ -19,16 +19,13 @@ fn print_set(rt: &impl Print, set: &[bool]) -> io::Result<()> {
 }
 
 fn print_state(rt: &impl Print, state: BodyContext) -> io::Result<()> {
-    let is_ref = state.is_ref;
-    let is_bound = state.is_bound;
-    let nesting = state.nesting;
     print!(rt;
         "depth {}, closures {}, references",
-        nesting.depth, nesting.match_split
+        state.nesting.depth, state.nesting.match_split
     )?;
-    print_set(rt, &is_ref)?;
+    print_set(rt, &state.is_ref)?;
     print!(rt; ", names")?;
-    print_set(rt, &is_bound)?;
+    print_set(rt, &state.is_bound)?;
     println!(rt)
 }
 
@@ -38,8 +35,8 @@ fn print_both(rt: &impl Print, both: BothWays) -> io::Result<()> {
 }
 
 fn main(rt: HostRuntime) -> io::Result<()> {
-    let new = BodyContext::new();
-    let named = lent_context::by_value::bind(new, 7);
+    let mut named = BodyContext::new();
+    named.bind(7);
     print_both(&rt, both_ways(named, 5, true))?;
     print_both(&rt, both_ways(named, 5, false))
 }

@@ -22,7 +22,7 @@ enum Below {
 }
 
 impl Below {
-    // What may stand below a row of a kind, a word of the buffers: 0 is a `match`, 3 a `return`, and arms are from 4 on.
+    // What may stand below a row of a kind, a word of the buffers (document 01): 0 is a `match`, 3 a `return`, and arms are from 4 on.
     #[tactic(auto, unfolding(crate::specs::Level::below_code))]
     fn of(kind: u32) -> Below
         ensures { code result ≡ below_code kind }
@@ -97,7 +97,7 @@ fn table_fits(plan: &Plan<'_>, table: Table, from: usize, to: usize, above: &mut
     }
 }
 
-// Whether each table has the rows that its sort asks for.
+// Whether each table has the rows that its sort asks for. The buffer of the levels is the caller's, as there is no heap.
 pub fn all_fit(plan: &Plan<'_>, rows: usize, tables: usize, above: &mut [u8]) -> bool
     requires { Indexed plan.now.tables.now rows tables × (rows + 2 ≤ length above.old) × (rows ≤ 65536) × (tables ≤ 65536) }
     ensures { result ≡ shaped 0 (tables_of plan.now.words.now plan.now.rows.now plan.now.tables.now rows tables) }

@@ -21,12 +21,15 @@ pub enum ListOf {
     Patterns,
 }
 
+// The word for `_` in an arm's list.
+pub const UNBOUND: u32 = 65537;
+
 // An arm's binding: a number, or `_` for none.
 fn read_pattern_binding(t: &[u8]) -> Option<u32>
     ensures { result ≡ told (some pattern_word ⊛ pattern_binding t.now) }
 {
     if tokens::equal(t, b"_") {
-        return Some(65537);
+        return Some(UNBOUND);
     }
     tokens::read_number(t)
 }

@@ -1,6 +1,6 @@
 -- Helper laws of quoting: what an escaped text reads back as, and that nothing else is escaped. Assumes nothing.
-use Rattle.std.specs.Prelude.{ℕ, ◌+◌, ◌≤◌, ◌<◌, ◌≡◌, refl, Bool, true, false, cond, not, ◌&&◌, ◌||◌, List, [], ◌∷◌, ◌++◌, ◌⊎◌, length, take, get_or, leb, eqb}
-use Rattle.std.proofs.Common.{ap, ◌∙◌, inl, inr, add-one, arith, take-suc, take_all, leb-true, eqb-true, ne_eqb}
+use Rattle.std.specs.Prelude.{ℕ, ◌+◌, ◌≤◌, ◌<◌, ◌≡◌, refl, Bool, true, false, cond, not, ◌&&◌, ◌||◌, List, [], ◌∷◌, ◌++◌, length, take, get_or, leb, eqb}
+use Rattle.std.proofs.Common.{ap, ◌∙◌, add-one, arith, take-suc, take_all, leb-true, eqb-true, ne_eqb}
 use Rattle.std.proofs.Math.Bool.{and-eq-true_iff}
 use Rattle.std.proofs.Math.Option.{some}
 use Rattle.std.proofs.lemmas.Bool.{not-true}
@@ -33,15 +33,18 @@ unmarked_escaped (c ∷ s) h =
     let p = (and-eq-true_iff (not (eqb c quote || eqb c backslash)) (unmarked s)).0 h in
     rw (not-true (eqb c quote || eqb c backslash) p.0) (ap (λ (r : List ℕ). c ∷ r) (unmarked_escaped s p.1))
 
--- the text put byte by byte
-pub escaped_mark : (c : ℕ) → (c ≡ quote) ⊎ (c ≡ backslash) → escaped (c ∷ []) ≡ backslash ∷ c ∷ []
-unfolding escaped
-escaped_mark c (inl q) = rw q
-escaped_mark c (inr q) = rw q
+-- has a byte a backslash before it?
+abbrev pub is_escaped : ℕ → Bool
+is_escaped c = eqb c quote || eqb c backslash
 
-pub escaped_other : (c : ℕ) → (c ≡ quote → ⊥) → (c ≡ backslash → ⊥) → escaped (c ∷ []) ≡ c ∷ []
+-- the text put in parts
+pub escaped_mark : (c : ℕ) → is_escaped c ≡ true → escaped (c ∷ []) ≡ backslash ∷ c ∷ []
 unfolding escaped
-escaped_other c f g = rw (ne_eqb c quote f, ne_eqb c backslash g)
+escaped_mark c h = rw h
+
+pub escaped_other : (c : ℕ) → is_escaped c ≡ false → escaped (c ∷ []) ≡ c ∷ []
+unfolding escaped
+escaped_other c h = rw h
 
 pub escaped_none : (s : List ℕ) → escaped (take 0 s) ≡ []
 unfolding escaped

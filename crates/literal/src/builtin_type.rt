@@ -29,6 +29,7 @@ pub enum BuiltinType {
 }
 
 impl IntType {
+    // A table of texts.
     pub fn name(self) -> &'static [u8]
         ensures { result.now ≡ codes (int_name self) }
     {

@@ -1,37 +1,38 @@
 // Rust's `{:?}` of a text.
-ghost use Rattle.std.specs.Prelude.{[], ◌∷◌};
-ghost use Rattle.text.specs.Sink.{Puts};
+ghost use Rattle.std.specs.Prelude.{◌≡◌, [], ◌∷◌};
 ghost use Rattle.text.specs.Writes.{Writes};
 ghost use Rattle.literal.specs.Quote.{escaped, quoted};
+ghost use Rattle.literal.specs.QuoteLaws.{is_escaped};
 
-use text::sink::{Sink, put_byte};
+use text::sink::Sink;
 
-#[tactic(auto, using(crate::proofs::Escapes::puts_quote, crate::proofs::Escapes::puts_backslash, crate::proofs::Escapes::puts_other))]
-fn put_escaped(out: &mut [u8], at: usize, end: usize, byte: u8) -> usize
-    ensures { Puts end (escaped (byte ∷ [])) out.old at out.new result }
+// Has a byte a backslash before it?
+fn is_escaped(byte: u8) -> bool
+    ensures { result ≡ is_escaped byte }
 {
-    if matches!(byte, b'"' | b'\\') {
-        let at = put_byte(out, at, end, b'\\');
-        return put_byte(out, at, end, byte);
-    }
-    put_byte(out, at, end, byte)
+    matches!(byte, b'"' | b'\\')
 }
 
-// The bytes of the text, escaped. A loop over the sink itself, which stores its position at each byte, took half as long again.
-fn put_all_escaped(out: &mut [u8], at: usize, end: usize, text: &[u8]) -> usize
-    ensures { Puts end (escaped text.now) out.old at out.new result }
+// The bytes of the text, escaped. What stands between two escapes is put at once: few texts have any.
+fn put_escaped(w: &mut Sink<'_>, text: &[u8])
+    ensures { Writes (escaped text.now) w.old w.new }
 {
-    let mut at = at;
-    for &byte in text {
-        at = put_escaped(out, at, end, byte);
+    // Where what is put next begins: at the text's start, or at the last byte that has a backslash before it.
+    let mut first = 0;
+    for i in 0..text.len() {
+        if is_escaped(text[i]) {
+            w.put_part(text, first, i);
+            w.put_byte(b'\\');
+            first = i;
+        }
     }
-    at
+    w.put_part(text, first, text.len());
 }
 
 pub fn put_quoted(w: &mut Sink<'_>, text: &[u8])
     ensures { Writes (quoted text.now) w.old w.new }
 {
     w.put_byte(b'"');
-    w.at = put_all_escaped(w.out, w.at, w.end, text);
+    put_escaped(w, text);
     w.put_byte(b'"');
 }

@@ -1,161 +1,106 @@
 // What an arm asks of its match's source q: codegen.rs 1077, `emit_constraint`.
-ghost use Rattle.std.specs.Prelude.{List, [], ◌∷◌, ℕ, drop};
+ghost use Rattle.std.specs.Prelude.{ℕ, drop};
 ghost use Rattle.plan.specs.Plan.{Environment};
 ghost use Rattle.plan.specs.Constraint as constraint;
 ghost use Rattle.rows.specs.View.{patterns_in};
-ghost use Rattle.layout.specs.View.{cut};
 ghost use Rattle.codegen.specs.Pattern.{inside_some, emit_constraint};
+ghost use Rattle.view.specs.Buffers.{words_of, env_of};
 ghost use Rattle.view.specs.Told.{constraint_told};
-ghost use Rattle.emits.specs.Emits.{Emits};
+ghost use Rattle.emits.specs.Runs.{Emits};
 ghost use Rattle.emits.specs.Marks.{set_of};
-ghost use Rattle.sema.specs.Holds.{Holds};
+ghost use Rattle.sema.specs.Holds.{VariantsIndexed};
 
+use super::bind::pattern_of;
 use super::fields::emit_fields;
 use consts::pieces::put_var;
 use consts::{emit_bool, emit_int};
-use emits::Written;
 use emits::stablemapset::{contains, insert};
-use sema::fields::{fields_of, variant_at};
-use sema::names::put_sym;
-use sema::types::put_type;
-use text::sink::put_bytes;
+use expr_parts::{const_prim, type_name, variant_name};
+use sema::types::TypeId;
+use text::number::Wide;
+use text::sink::Sink;
 use view::block::Constraint;
+use view::buffers::Plan;
 
-// A variant k of the enum n, with its fields.
+// A variant k of an enum, with its fields.
 fn emit_variant(
-    out: &mut [u8],
-    end: usize,
-    at: usize,
+    w: &mut Sink<'_>,
+    plan: &Plan<'_>,
     refs: &mut [bool],
-    plan: &[u8],
-    words: &[u32],
-    rows: &[u32],
-    tables: &[u32],
-    index: &[u32],
     depth: usize,
-    n: usize,
+    ty: TypeId,
     k: usize,
     r: usize,
-) -> usize
-    ensures { (env : Environment) (q m : ℕ) → Holds env plan.now words.now rows.now tables.now index.now → Emits end env depth (emit_constraint env q (constraint.Variant n k) (patterns_in (drop 7 (cut words.now rows.now r)))) out.old at m (set_of refs.old) out.new result m (set_of refs.new) }
+)
+    ensures { VariantsIndexed plan.now → let env = env_of plan.now in (q : ℕ) → Emits env depth (emit_constraint env q (constraint.Variant ty.0 k) (patterns_in (drop 7 (words_of plan.now r)))) w.old (set_of refs.old) w.new (set_of refs.new) }
 {
-    let v = variant_at(words, rows, index, n, k);
-    let name = v.name;
-    let f = v.fields;
-    let at = put_bytes(out, at, end, b"&");
-    let at = put_type(out, at, end, plan, words, rows, tables, n);
-    let at = put_bytes(out, at, end, b"::");
-    let at = put_sym(out, at, end, plan, words, rows, tables, name);
-    emit_fields(out, end, at, refs, plan, words, rows, tables, depth, f, r)
+    let variant = ty.variant(plan, k);
+    w.put_bytes(b"&");
+    variant_name(w, plan, ty, variant.name);
+    emit_fields(w, plan, refs, depth, variant.fields, r);
 }
 
-// The struct n, with its fields.
+// A struct, with its fields.
 fn emit_struct(
-    out: &mut [u8],
-    end: usize,
-    at: usize,
+    w: &mut Sink<'_>,
+    plan: &Plan<'_>,
     refs: &mut [bool],
-    plan: &[u8],
-    words: &[u32],
-    rows: &[u32],
-    tables: &[u32],
     depth: usize,
-    n: usize,
+    ty: TypeId,
     r: usize,
-) -> usize
-    ensures { (env : Environment) (index : List ℕ) (q m : ℕ) → Holds env plan.now words.now rows.now tables.now index → Emits end env depth (emit_constraint env q (constraint.Struct n) (patterns_in (drop 7 (cut words.now rows.now r)))) out.old at m (set_of refs.old) out.new result m (set_of refs.new) }
+)
+    ensures { let env = env_of plan.now in (q : ℕ) → Emits env depth (emit_constraint env q (constraint.Struct ty.0) (patterns_in (drop 7 (words_of plan.now r)))) w.old (set_of refs.old) w.new (set_of refs.new) }
 {
-    let f = fields_of(words, rows, tables, n);
-    let at = put_bytes(out, at, end, b"&");
-    let at = put_type(out, at, end, plan, words, rows, tables, n);
-    emit_fields(out, end, at, refs, plan, words, rows, tables, depth, f, r)
+    w.put_bytes(b"&");
+    type_name(w, plan, ty);
+    emit_fields(w, plan, refs, depth, ty.fields(plan), r);
 }
 
 // What stands inside `Some(` and `)`: a reference if the source is one.
-fn put_inside_some(
-    out: &mut [u8],
-    end: usize,
-    at: usize,
-    refs: &mut [bool],
-    words: &[u32],
-    rows: &[u32],
-    q: usize,
-    r: usize,
-) -> usize
-    ensures { (env : Environment) (d m : ℕ) → Emits end env d (inside_some q (patterns_in (drop 7 (cut words.now rows.now r)))) out.old at m (set_of refs.old) out.new result m (set_of refs.new) }
+fn put_inside_some(w: &mut Sink<'_>, plan: &Plan<'_>, refs: &mut [bool], q: usize, r: usize)
+    ensures { (env : Environment) (d : ℕ) → Emits env d (inside_some q (patterns_in (drop 7 (words_of plan.now r)))) w.old (set_of refs.old) w.new (set_of refs.new) }
 {
-    if view::row_len(words, rows, r) <= 7 {
-        return at;
+    let row = plan.row(r);
+    if row.len() <= 7 {
+        return;
     }
-    let b = view::word(words, rows, r, 7);
-    if b == 65537 {
-        return put_bytes(out, at, end, b"_");
-    }
+    let Some(b) = pattern_of(row[7]) else {
+        return w.put_bytes(b"_");
+    };
     if contains(refs, q) {
         insert(refs, b);
-        return put_var(out, at, end, b);
     }
-    put_var(out, at, end, b)
+    put_var(w, b);
 }
 
-fn emit_some(
-    out: &mut [u8],
-    end: usize,
-    at: usize,
-    refs: &mut [bool],
-    words: &[u32],
-    rows: &[u32],
-    q: usize,
-    r: usize,
-) -> usize
-    ensures { (env : Environment) (d m : ℕ) → Emits end env d (emit_constraint env q constraint.Some (patterns_in (drop 7 (cut words.now rows.now r)))) out.old at m (set_of refs.old) out.new result m (set_of refs.new) }
+fn emit_some(w: &mut Sink<'_>, plan: &Plan<'_>, refs: &mut [bool], q: usize, r: usize)
+    ensures { (env : Environment) (d : ℕ) → Emits env d (emit_constraint env q constraint.Some (patterns_in (drop 7 (words_of plan.now r)))) w.old (set_of refs.old) w.new (set_of refs.new) }
 {
-    let at = put_bytes(out, at, end, b"Some(");
-    let at = put_inside_some(out, end, at, refs, words, rows, q, r);
-    put_bytes(out, at, end, b")")
+    w.put_bytes(b"Some(");
+    put_inside_some(w, plan, refs, q, r);
+    w.put_bytes(b")");
 }
 
 // The constraint c, with the bindings of row r.
 pub fn emit_constraint(
-    out: &mut [u8],
-    end: usize,
-    at: usize,
-    odd: usize,
+    w: &mut Sink<'_>,
+    plan: &Plan<'_>,
     refs: &mut [bool],
-    plan: &[u8],
-    words: &[u32],
-    rows: &[u32],
-    tables: &[u32],
-    index: &[u32],
     depth: usize,
     q: usize,
     c: Constraint,
     r: usize,
-) -> Written
-    ensures { (env : Environment) → Holds env plan.now words.now rows.now tables.now index.now → Emits end env depth (emit_constraint env q (constraint_told c) (patterns_in (drop 7 (cut words.now rows.now r)))) out.old at odd (set_of refs.old) out.new result.at result.odd (set_of refs.new) }
+)
+    ensures { VariantsIndexed plan.now → let env = env_of plan.now in Emits env depth (emit_constraint env q (constraint_told c) (patterns_in (drop 7 (words_of plan.now r)))) w.old (set_of refs.old) w.new (set_of refs.new) }
 {
     match c {
-        Constraint::ConstBool { val } => emit_bool(out, end, at, odd, val),
-        Constraint::ConstInt { ty, high, low } => {
-            emit_int(out, end, at, odd, words, rows, tables, ty, high, low)
-        }
-        Constraint::ConstPrim { val } => {
-            let at = put_sym(out, at, end, plan, words, rows, tables, val);
-            Written { at: at, odd: odd }
-        }
+        Constraint::ConstBool { val } => emit_bool(w, val),
+        Constraint::ConstInt { ty, high, low } => emit_int(w, TypeId(ty), Wide { high, low }),
+        Constraint::ConstPrim { val } => const_prim(w, plan, val),
         Constraint::Variant { ty, variant } => {
-            let at = emit_variant(
-                out, end, at, refs, plan, words, rows, tables, index, depth, ty, variant, r,
-            );
-            Written { at: at, odd: odd }
+            emit_variant(w, plan, refs, depth, TypeId(ty), variant, r)
         }
-        Constraint::Struct { ty } => {
-            let at = emit_struct(out, end, at, refs, plan, words, rows, tables, depth, ty, r);
-            Written { at: at, odd: odd }
-        }
-        Constraint::Some => {
-            let at = emit_some(out, end, at, refs, words, rows, q, r);
-            Written { at: at, odd: odd }
-        }
+        Constraint::Struct { ty } => emit_struct(w, plan, refs, depth, TypeId(ty), r),
+        Constraint::Some => emit_some(w, plan, refs, q, r),
     }
 }

@@ -5,6 +5,7 @@ ghost use Rattle.std.specs.Prelude.{◌≡◌, ◌≤◌, IfOk, length, take};
 ghost use Rattle.codegen.specs.Answer.{answer, terms_answer};
 ghost use Rattle.emitter.specs.Answered.{items_answer};
 ghost use Rattle.plan.specs.Refusal.{refusal};
+ghost use Rattle.refusal.specs.Number.{number};
 ghost use Rattle.programs.specs.Printed.{refused_line, accepted_line, verdict, printed, count_line, counted, shown};
 
 use emitter::Text;
@@ -14,12 +15,12 @@ use std::io::{ErrorKind, Print, Read};
 use text::sink::Sink;
 
 // The line `refused N`.
-fn put_refusal(out: &mut [u8], n: u32) -> usize
-    ensures { length out.old ≡ 65536 → take result out.new ≡ refused_line n }
+fn put_refusal(out: &mut [u8], refusal: Refusal) -> usize
+    ensures { length out.old ≡ 65536 → take result out.new ≡ refused_line (number refusal) }
 {
     let mut w = Sink::new(out, 65537);
     w.put_bytes(b"refused ");
-    w.put_decimal(n as u64);
+    w.put_decimal(refusal.number() as u64);
     w.put_byte(b'\n');
     w.at
 }
@@ -54,7 +55,7 @@ fn put_shown(r: Result<Text, Refusal>, out: &mut [u8]) -> usize
 {
     match r {
         Ok(text) => text.length,
-        Err(refusal) => put_refusal(out, refusal.number()),
+        Err(refusal) => put_refusal(out, refusal),
     }
 }
 
@@ -95,7 +96,7 @@ pub fn accept(plan: &[u8], out: &mut [u8; 65536]) -> usize
 {
     match refusals::refused(plan) {
         None => put_accepted(out),
-        Some(refusal) => put_refusal(out, refusal.number()),
+        Some(refusal) => put_refusal(out, refusal),
     }
 }
 
@@ -109,9 +110,19 @@ pub fn first(out: &[u8], n: usize) -> &[u8]
     out
 }
 
-// Prints the first n bytes. No contract can say what is written.
-pub fn print(rt: &impl Print, out: &[u8; 65536], n: usize) -> io::Result<()> {
-    rt.write_all(first(out, n))
+// Reads once, and again where that is interrupted. An interrupted read leaves no less to read, so nothing shows that a `loop` ends:
+// the tries are counted.
+fn read_some<R: Read>(input: &mut R, buf: &mut [u8]) -> io::Result<usize>
+    ensures { IfOk result (λ n. n ≤ length buf.new) }
+{
+    for _ in 0..u64::MAX {
+        match input.read(buf) {
+            Ok(n) => return Ok(n),
+            Err(e) if e.kind() == ErrorKind::Interrupted => {}
+            Err(e) => return Err(e),
+        }
+    }
+    Err(io::Error::from(ErrorKind::Interrupted))
 }
 
 // Reads until the buffer is full or the input ends: how many bytes it put at the start of the buffer.
@@ -119,23 +130,29 @@ pub fn read_full<R: Read>(input: &mut R, buf: &mut [u8]) -> io::Result<usize>
     ensures { IfOk result (λ n. n ≤ length buf.new) }
 {
     let mut done = 0;
-    for _ in 0..u64::MAX {
-        if buf.len() <= done {
-            return Ok(done);
+    while done < buf.len() {
+        let n = read_some(input, &mut buf[done..])?;
+        if n == 0 {
+            break;
         }
-        match input.read(&mut buf[done..]) {
-            Ok(n) => {
-                if n == 0 {
-                    return Ok(done);
-                }
-                done += n;
-            }
-            Err(e) => {
-                if e.kind() != ErrorKind::Interrupted {
-                    return Err(e);
-                }
-            }
-        }
+        done += n;
     }
     Ok(done)
+}
+
+// What each program does: reads a plan, and prints what its function puts into the buffer, as `whole`. No contract can say what is
+// written.
+pub fn run<R: Read, F: Fn(&[u8], &mut [u8; 65536]) -> usize>(
+    input: &mut R,
+    rt: &impl Print,
+    answer: F,
+) -> io::Result<()>
+    requires { F.IsAlwaysCallable answer }
+{
+    // One byte more than a plan may have: a longer one is refused for its length, and never cut.
+    let mut plan = [0u8; 65537];
+    let mut out = [0u8; 65536];
+    let n = read_full(input, &mut plan)?;
+    let length = answer(&plan[..n], &mut out);
+    rt.write_all(first(&out, length))
 }

@@ -65,7 +65,7 @@ pub fn plan_held<'a>(bytes: &'a [u8], buffers: &'a Buffers<'_>, tables: usize) -
 }
 
 // Reads a plan into buffers that are long enough for it; `above` is used for the levels of blocks. The refusals 1 and 2 change
-// nothing in them.
+// nothing in them. `Room` is a fact of the buffers and of the plan that is read, and so no invariant of `Buffers`.
 pub fn read_into(plan: &[u8], buffers: &mut Buffers<'_>, above: &mut [u8]) -> Result<Held, Refusal>
     requires { Room plan.now buffers.old.words.now buffers.old.rows.now buffers.old.tables.now above.old }
     ensures same { SameBuffers buffers.old buffers.new }

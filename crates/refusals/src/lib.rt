@@ -33,7 +33,7 @@ pub fn read_into(
     Ok(held)
 }
 
-// The same into buffers that are long enough for each plan.
+// The same into buffers that are long enough for each plan, one by one: each has its length in its type, as `Buffers` has not.
 pub fn read(
     plan: &[u8],
     words: &mut [u32; 65536],

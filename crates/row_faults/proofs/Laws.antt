@@ -31,7 +31,8 @@ use Rattle.row_frames.specs.Told.{purpose_told, opens_told}
 use Rattle.row_frames.specs.declared.Purpose as code
 use Rattle.row_frames.specs.declared.Purpose.TheVariants as purposes
 use Rattle.emits.specs.Marks.{set_of}
-use Rattle.row_frames.specs.Rows.{rows_from, rows_next, rows_none, step_is, arm_is}
+use Rattle.row_frames.specs.Rows.{rows_from, rows_next, rows_none}
+use Rattle.view.specs.BlockRows.{step_is, arm_is}
 use Rattle.splitting.specs.Cases.{false_true}
 use Rattle.schedule_rules.specs.Faults.{any, returns_many, holds, calls_below, calls, uses, loop_unbound, list_calls, check_calls, own_new, source_uses_own, match_uses_own, row_faults, nowhere}
 use Rattle.schedule_rules.specs.Found.{Lower, found}
@@ -111,10 +112,10 @@ decides_named bound b h = record { is = λ l. rw h refl }
 
 -- LISTS
 
--- from word k of the row on, where the names were m₀ at the list's start
-pub record Listing (t : Bindings) (row : List ℕ) (m₀ m : Marks) (k : ℕ) (found : Bool) : Type 0 where
-  pub names : listed (drop k row) m ≡ listed (drop 7 row) m₀
-  pub faults : Lower (bindings_of t) → (found || list_calls (env_of t.plan.now) (bindings_of t) m (drop k row)) ≡ list_calls (env_of t.plan.now) (bindings_of t) m₀ (drop 7 row)
+-- from member k of the list on, where the names were m₀ at its start
+pub record Listing (t : Bindings) (list : List ℕ) (m₀ m : Marks) (k : ℕ) (found : Bool) : Type 0 where
+  pub names : listed (drop k list) m ≡ listed list m₀
+  pub faults : Lower (bindings_of t) → (found || list_calls (env_of t.plan.now) (bindings_of t) m (drop k list)) ≡ list_calls (env_of t.plan.now) (bindings_of t) m₀ list
 
 or_assoc : (a b c : Bool) → ((a || b) || c) ≡ (a || (b || c))
 or_assoc true b c = refl
@@ -130,33 +131,33 @@ or_comm true false = refl
 or_comm false true = refl
 or_comm false false = refl
 
-listed_cons : (row : List ℕ) (k : ℕ) (m : Marks) → k < length row → listed (drop k row) m ≡ listed (drop (k + 1) row) (insert m (nth row k))
+listed_cons : (list : List ℕ) (k : ℕ) (m : Marks) → k < length list → listed (drop k list) m ≡ listed (drop (k + 1) list) (insert m (nth list k))
 unfolding listed
-listed_cons row k m h = rw (add-one, drop-cons row k 0 h)
+listed_cons list k m h = rw (add-one, drop-cons list k 0 h)
 
-calls_cons : (env : Environment) (bs : List BindingRow) (row : List ℕ) (k : ℕ) (m : Marks) → k < length row → list_calls env bs m (drop k row) ≡ (member_calls env bs m (nth row k) || list_calls env bs (insert m (nth row k)) (drop (k + 1) row))
+calls_cons : (env : Environment) (bs : List BindingRow) (list : List ℕ) (k : ℕ) (m : Marks) → k < length list → list_calls env bs m (drop k list) ≡ (member_calls env bs m (nth list k) || list_calls env bs (insert m (nth list k)) (drop (k + 1) list))
 unfolding list_calls member_calls
-calls_cons env bs row k m h = rw (add-one, drop-cons row k 0 h)
+calls_cons env bs list k m h = rw (add-one, drop-cons list k 0 h)
 
-module _ {t : Bindings} {row : List ℕ} {m₀ : Marks} where
-  pub listing_start : Listing t row m₀ m₀ 7 false
+module _ {t : Bindings} {list : List ℕ} {m₀ : Marks} where
+  pub listing_start : Listing t list m₀ m₀ 0 false
   listing_start = record { names = refl; faults = λ l. refl }
 
-  pub listing_next : {m m' : Marks} {k : ℕ} {found more r : Bool} → k < length row → Listing t row m₀ m k found → m' ≡ insert m (nth row k)
-      → Decides t (λ env bs. member_calls env bs m (nth row k)) more → r ≡ (found || more) → Listing t row m₀ m' (k + 1) r
+  pub listing_next : {m m' : Marks} {k : ℕ} {found more r : Bool} → k < length list → Listing t list m₀ m k found → m' ≡ insert m (nth list k)
+      → Decides t (λ env bs. member_calls env bs m (nth list k)) more → r ≡ (found || more) → Listing t list m₀ m' (k + 1) r
   listing_next {m} {m'} {k} {found} {more} h w q d e = record {
-    names = rw q (sym (listed_cons row k m h) ∙ w.names);
+    names = rw q (sym (listed_cons list k m h) ∙ w.names);
     faults = λ l.
-        rw (q, e, d.is l) (or_assoc found _ _ ∙ ap (λ (y : Bool). found || y) (sym (calls_cons (env_of t.plan.now) (bindings_of t) row k m h)) ∙ w.faults l);
+        rw (q, e, d.is l) (or_assoc found _ _ ∙ ap (λ (y : Bool). found || y) (sym (calls_cons (env_of t.plan.now) (bindings_of t) list k m h)) ∙ w.faults l);
   }
 
-  pub listing_names : {m : Marks} {k : ℕ} {found : Bool} → length row ≤ k → Listing t row m₀ m k found → m ≡ listed (drop 7 row) m₀
+  pub listing_names : {m : Marks} {k : ℕ} {found : Bool} → length list ≤ k → Listing t list m₀ m k found → m ≡ listed list m₀
   unfolding listed
-  listing_names {m} h w = sym (ap (λ (l : List ℕ). listed l m) (drop_of_length-le row h)) ∙ w.names
+  listing_names {m} h w = sym (ap (λ (l : List ℕ). listed l m) (drop_of_length-le list h)) ∙ w.names
 
-  pub listing_faults : {m : Marks} {k : ℕ} {found : Bool} → length row ≤ k → Listing t row m₀ m k found → Decides t (λ env bs. list_calls env bs m₀ (drop 7 row)) found
+  pub listing_faults : {m : Marks} {k : ℕ} {found : Bool} → length list ≤ k → Listing t list m₀ m k found → Decides t (λ env bs. list_calls env bs m₀ list) found
   unfolding list_calls
-  listing_faults {m} {k} {found} h w = record { is = λ l. sym (rw (drop_of_length-le row h) (or_false found)) ∙ w.faults l }
+  listing_faults {m} {k} {found} h w = record { is = λ l. sym (rw (drop_of_length-le list h) (or_false found)) ∙ w.faults l }
 
 pub or_left : (a b : Bool) → (a || b) ≡ false → a ≡ false
 or_left true b h = false_true (sym h)

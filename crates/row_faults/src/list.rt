@@ -43,10 +43,9 @@ pub fn list_calls(
     ensures ready { Ready bindings.now (set_of bound.new) kept.new }
     ensures found { Decides bindings.now (λ env bs. list_calls env bs (set_of bound.old) (drop 7 (words_of bindings.now.plan.now r))) result }
 {
-    let row = bindings.plan.row(r);
     let mut found = false;
-    for k in 7..row.len() {
-        found |= bind_member(kept, bound, bindings, view::wide(row[k]));
+    for word in bindings.plan.row(r).iter().skip(7) {
+        found |= bind_member(kept, bound, bindings, *word as usize);
     }
     found
 }

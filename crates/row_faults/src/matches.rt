@@ -1,10 +1,8 @@
 // The arms of a match, and (c): codegen.rs 742 to 770 writes the pattern of a match of one arm before its source.
 ghost use Rattle.std.specs.Prelude.{◌≡◌, true, ◌+◌, ◌<◌, drop};
-ghost use Rattle.codegen.specs.Block.{is_constant};
 ghost use Rattle.codegen.specs.Pattern.{bind_all};
 ghost use Rattle.rows.specs.View.{nth, patterns_in};
 ghost use Rattle.view.specs.Buffers.{words_of};
-ghost use Rattle.view.specs.Told.{constraint_of};
 ghost use Rattle.row_frames.specs.Told.{opens_told};
 ghost use Rattle.emits.specs.Marks.{set_of};
 ghost use Rattle.expr_faults.specs.Kept.{Latest, Fresh, answer};
@@ -14,20 +12,9 @@ ghost use Rattle.row_faults.specs.Arms.{rows_in, arms_in, opened_by, arm_names, 
 use super::names::bind_patterns;
 use expr_faults::kept::Kept;
 use expr_faults::written::{Bindings, Question, expr_holds};
-use row_frames::Purpose;
-use view::block::Constraint;
+use row_frames::{Purpose, is_constant};
 use view::buffers::Plan;
 use weights::arm_count;
-
-// Whether row r, an arm, asks for a constant.
-fn is_constant(plan: &Plan<'_>, r: usize) -> bool
-    ensures { result ≡ is_constant (constraint_of (words_of plan.now r)) }
-{
-    matches!(
-        plan.constraint_at(r),
-        Constraint::ConstBool { .. } | Constraint::ConstInt { .. } | Constraint::ConstPrim { .. }
-    )
-}
 
 #[derive(Clone, Copy)]
 pub enum Arms {
@@ -101,7 +88,7 @@ fn name_own(
         return false;
     }
     kept.raise();
-    if is_constant(bindings.plan, r) {
+    if is_constant(bindings.plan.constraint_at(r)) {
         return false;
     }
     let found = uses_own(kept, &before, bound, bindings, q);

@@ -10,6 +10,7 @@ ghost use Rattle.row_faults.specs.Ready.{Ready};
 
 use emits::stablemapset::{contains, insert};
 use expr_faults::kept::Kept;
+use lists::UNBOUND;
 use view::buffers::Plan;
 
 // Binding b gets a name.
@@ -30,22 +31,21 @@ fn bind_pattern(bound: &mut [bool], b: usize) -> bool
     ensures names { set_of bound.new ≡ bind_all (pattern_of b ∷ []) (set_of bound.old) }
     ensures same { result ≡ false → set_of bound.new ≡ set_of bound.old }
 {
-    if b == 65537 || contains(bound, b) {
+    if b == UNBOUND as usize || contains(bound, b) {
         return false;
     }
     insert(bound, b);
     true
 }
 
-// The bindings of the pattern of row r get names: whether one of them is new.
+// The bindings of the pattern of row r get names: whether one of them is new. `bind_all` of `pattern`, which is codegen.rs's, tells nothing.
 pub fn bind_patterns(bound: &mut [bool], plan: &Plan<'_>, r: usize) -> bool
     ensures names { set_of bound.new ≡ bind_all (patterns_in (drop 7 (words_of plan.now r))) (set_of bound.old) }
     ensures same { result ≡ false → set_of bound.new ≡ set_of bound.old }
 {
-    let row = plan.row(r);
     let mut new = false;
-    for k in 7..row.len() {
-        new |= bind_pattern(bound, view::wide(row[k]));
+    for word in plan.row(r).iter().skip(7) {
+        new |= bind_pattern(bound, *word as usize);
     }
     new
 }

@@ -18,7 +18,8 @@ use expr_faults::written::Bindings;
 use row_frames::Purpose;
 use view::buffers::Plan;
 
-// The names are kept at a place, unless row r is a `return`, which opens no frame.
+// The names are kept at a place, unless row r is a `return`, which opens no frame: its kind is asked by its number, since an arm is no
+// `ControlFlow`. `save_scope` of `blocks` does the same by the step `enter_scope` of codegen.rs, which has no part in a judgement.
 #[tactic(auto, using(row_frames::specs::Scopes::saved_none, row_frames::specs::Scopes::saved_set))]
 fn keep_names(
     scopes: &mut [[bool; 1024]],

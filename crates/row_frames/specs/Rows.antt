@@ -1,10 +1,9 @@
 -- The rows of a block as the buffers hold them. Assumes nothing.
-use Rattle.std.specs.Prelude.{ℕ, zero, suc, ◌+◌, ◌-◌, ◌≤◌, ◌<◌, ◌≡◌, refl, Bool, true, false, cond, List, [], ◌∷◌, map, ltb, drop}
+use Rattle.std.specs.Prelude.{ℕ, zero, suc, ◌+◌, ◌-◌, ◌≤◌, ◌<◌, ◌≡◌, refl, Bool, true, false, List, [], ◌∷◌, map, ltb}
 use Rattle.std.proofs.Common.{arith, ltb-true, ltb-false}
-use Rattle.plan.specs.Row.{Row, step, arm, level}
-use Rattle.rows.specs.View.{nth, wide_at, step_made, arm_made, patterns_in, block_of}
+use Rattle.plan.specs.Row.{Row, level}
+use Rattle.rows.specs.View.{block_of}
 use Rattle.layout.specs.View.{cut, cuts}
-use Rattle.view.specs.Told.{control_flow_of, constraint_of}
 use Rattle.schedule_rules.specs.Passes.{Each}
 use Rattle.view.proofs.Laws.{cuts_next, cuts_none}
 
@@ -18,26 +17,6 @@ module _ (words rows : List ℕ) (r last : ℕ) where
 
   pub rows_none : last ≤ r → rows_from words rows last r ≡ []
   rows_none h = rw (cuts_none words rows r last h)
-
--- ONE ROW
-
-abbrev of_test : (ws : List ℕ) (b : Bool) → Row
-of_test ws b = cond b (step (nth ws 0) (step_made (nth ws 1) (nth ws 2) (wide_at ws 3)) (drop 7 ws)) (arm (nth ws 0) (arm_made (nth ws 1 - 4) (nth ws 2) (wide_at ws 3)) (patterns_in (drop 7 ws)))
-
-pub level_is : (ws : List ℕ) → level (block_of ws) ≡ nth ws 0
-unfolding block_of level
-level_is ws = by_test (ltb (nth ws 1) 4) where
-  by_test : (b : Bool) → level (of_test ws b) ≡ nth ws 0
-  by_test true = refl
-  by_test false = refl
-
-pub step_is : (ws : List ℕ) → ltb (nth ws 1) 4 ≡ true → block_of ws ≡ step (nth ws 0) (control_flow_of ws) (drop 7 ws)
-unfolding block_of
-step_is ws h = rw h refl
-
-pub arm_is : (ws : List ℕ) → ltb (nth ws 1) 4 ≡ false → block_of ws ≡ arm (nth ws 0) (constraint_of ws) (patterns_in (drop 7 ws))
-unfolding block_of
-arm_is ws h = rw h refl
 
 -- LEVELS
 

@@ -1,4 +1,5 @@
-// The kinds of rows, by their names, and what the other values of a row are for each.
+// The kinds of rows, by their names, and what the other values of a row are for each. The names are compared one by one: the default arm of
+// a `match` on them knows of the bytes alone, and its proof does not close. The numbers are those of the buffers' words (document 01).
 ghost use Rattle.std.specs.Prelude.{◌≡◌, get_or, option_map};
 ghost use Rattle.tokens.specs.Token.{told, place};
 ghost use Rattle.values.specs.Value.{kind_word};

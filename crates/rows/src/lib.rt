@@ -115,7 +115,8 @@ fn put_block_row(line: &[u8], words: &mut Words<'_>) -> Option<()>
     lists::put_list(kind.list(), line.column(4), words)
 }
 
-// A text's words: its start and its end in the plan.
+// A text's words: its start and its end in the plan. The place is asked for beside the line, since the rows of the other tables are the
+// line alone.
 fn put_text(from: usize, line: &[u8], words: &mut Words<'_>) -> Option<()>
     requires { from + length line.now < 4294967296 }
     ensures { Writes (text_words from line.now) words.old result words.new }

@@ -22,10 +22,10 @@ prefix is_extractor = cond is_extractor (fix "extractor_" refl) (fix "constructo
 
 abbrev pub sig_told : Environment → ExternalSig → sema.ExternalSig
 sig_told env s = record {
-  func_name = func_name_of (function_told s.func) (prefix s.is_extractor) (term_at env s.term);
-  full_name = full_name_of (function_told s.func) (prefix s.is_extractor) (term_at env s.term);
-  param_tys = cond s.is_extractor ((term_at env s.term).ret_ty ∷ []) (term_at env s.term).arg_tys;
-  ret_tys = cond s.is_extractor (term_at env s.term).arg_tys ((term_at env s.term).ret_ty ∷ []);
+  func_name = func_name_of (function_told s.func) (prefix s.is_extractor) (term_at env s.term.0);
+  full_name = full_name_of (function_told s.func) (prefix s.is_extractor) (term_at env s.term.0);
+  param_tys = cond s.is_extractor ((term_at env s.term.0).ret_ty ∷ []) (term_at env s.term.0).arg_tys;
+  ret_tys = cond s.is_extractor (term_at env s.term.0).arg_tys ((term_at env s.term.0).ret_ty ∷ []);
   ret_kind = return_kind_told s.ret_kind;
 }
 

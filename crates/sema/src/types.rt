@@ -1,7 +1,6 @@
 // Types by their number: `TypeEnv` of sema.rs, and `ty` of codegen.rs 610.
 ghost use Rattle.std.specs.Prelude.{◌≡◌, List, ℕ, length};
 ghost use Rattle.text.specs.Codes.{codes};
-ghost use Rattle.text.specs.Sink.{Puts};
 ghost use Rattle.text.specs.Writes.{Writes};
 ghost use Rattle.literal.specs.BuiltinType.{builtin_int, name};
 ghost use Rattle.plan.specs.Plan.{Environment};
@@ -10,9 +9,9 @@ ghost use Rattle.codegen.specs.Piece.{type_text};
 ghost use Rattle.codegen.specs.Sema.{is_ref, int_type};
 ghost use Rattle.view.specs.Buffers.{env_of};
 ghost use Rattle.view.specs.declared.buffers.Plan.{Plan};
-ghost use Rattle.sema.specs.Holds.{Holds, VariantsIndexed};
+ghost use Rattle.sema.specs.Holds.{VariantsIndexed};
 ghost use Rattle.sema.specs.Fields.{fields_read};
-ghost use Rattle.sema.specs.Types.{type_held, type_read, type_by_row};
+ghost use Rattle.sema.specs.Types.{type_read, type_by_row};
 
 use super::fields::{Fields, Variant};
 use super::texts::{Text, put_text};
@@ -20,76 +19,13 @@ use literal::builtin_type::BuiltinType;
 use text::sink::Sink;
 use view::buffers::Plan;
 use view::environment::{Shape, TypeData};
+use view::tables::TYPES;
 
 // A type, and its row, whose list has a struct's fields.
 #[derive(Clone, Copy)]
 pub struct TypeRow {
     pub ty: TypeData,
     pub row: usize,
-}
-
-// `ty` of codegen.rs 610: whether a value of the type is passed by reference.
-pub fn is_ref(words: &[u32], rows: &[u32], tables: &[u32], n: usize) -> bool
-    ensures { (env : Environment) (plan index : List ℕ) → Holds env plan words.now rows.now tables.now index → result ≡ is_ref env n }
-{
-    if n < BuiltinType::COUNT {
-        return false;
-    }
-    let r = view::row_at(rows, tables, 4, n - BuiltinType::COUNT);
-    view::word(words, rows, r, 0) != 0
-}
-
-// The builtin type that a literal of type n is written as: `bool` stands for each type that is no integer type.
-pub fn int_type(words: &[u32], rows: &[u32], tables: &[u32], n: usize) -> BuiltinType
-    ensures { (env : Environment) (plan index : List ℕ) → Holds env plan words.now rows.now tables.now index → builtin_int result ≡ int_type (type_at env n) }
-{
-    BuiltinType::from_index(n)
-}
-
-// `Type::name` of sema.rs 310, put into the sink.
-pub fn put_type(
-    out: &mut [u8],
-    at: usize,
-    end: usize,
-    plan: &[u8],
-    words: &[u32],
-    rows: &[u32],
-    tables: &[u32],
-    n: usize,
-) -> usize
-    ensures { (env : Environment) (index : List ℕ) → Holds env plan.now words.now rows.now tables.now index → Puts end (type_text env (type_at env n)) out.old at out.new result }
-{
-    if n < BuiltinType::COUNT {
-        let mut w = Sink {
-            out,
-            at,
-            end,
-            odd: 0,
-        };
-        let t = BuiltinType::from_index(n);
-        t.put_name(&mut w);
-        return w.at;
-    }
-    if view::row_count(tables, 4) <= n - BuiltinType::COUNT {
-        let mut w = Sink {
-            out,
-            at,
-            end,
-            odd: 0,
-        };
-        BuiltinType::Bool.put_name(&mut w);
-        return w.at;
-    }
-    let r = view::row_at(rows, tables, 4, n - BuiltinType::COUNT);
-    let name = view::word(words, rows, r, 1);
-    super::names::put_sym(out, at, end, plan, words, rows, tables, name)
-}
-
-// The name of a builtin type, put into the sink.
-fn put_builtin(w: &mut Sink<'_>, t: BuiltinType)
-    ensures { Writes (codes (name t)) w.old w.new }
-{
-    t.put_name(w);
 }
 
 // `TypeId` of sema.rs: a type by its number.
@@ -103,8 +39,8 @@ impl TypeId {
         ensures { type_by_row plan.now self.0 result ≡ type_at (env_of plan.now) self.0 }
     {
         let i = self.0.checked_sub(BuiltinType::COUNT)?;
-        if i < plan.row_count(4) {
-            Some(plan.row_at(4, i))
+        if i < plan.row_count(TYPES) {
+            Some(plan.row_at(TYPES, i))
         } else {
             None
         }
@@ -148,7 +84,7 @@ impl TypeId {
         ensures { let env = env_of plan.now in Writes (type_text env (type_at env self.0)) w.old w.new }
     {
         match self.row(plan) {
-            None => put_builtin(w, BuiltinType::from_index(self.0)),
+            None => BuiltinType::from_index(self.0).put_name(w),
             Some(row) => put_text(w, plan, Text::Sym, plan.word(row, 1)),
         }
     }

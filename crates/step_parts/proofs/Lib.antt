@@ -1,3 +1,2 @@
-pub mod BufferLaws
-pub mod CalleeLaws
+pub mod Calls
 pub mod HeadLaws

@@ -1,4 +1,2 @@
-pub mod Callee
-pub mod Facts
-pub mod Leads
+pub mod Buffer
 pub mod Loops

@@ -1,212 +1,145 @@
 // The first lines of matches, `equal` and `loop`: codegen.rs 740 to 815.
-ghost use Rattle.std.specs.Prelude.{◌≡◌, true, false, ◌+◌, ◌<◌, drop};
+ghost use Rattle.std.specs.Prelude.{◌+◌, ◌<◌, drop};
 ghost use Rattle.plan.specs.Plan.{Environment};
 ghost use Rattle.rows.specs.View.{patterns_in};
-ghost use Rattle.layout.specs.View.{cut};
+ghost use Rattle.codegen.specs.Block.{one_arm_head, match_head, equal_head, loop_head};
 ghost use Rattle.view.specs.Told.{constraint_told};
-ghost use Rattle.emits.specs.Emits.{Emits, Shows};
-ghost use Rattle.step_parts.specs.Loops.{iterator_line};
 ghost use Rattle.emits.specs.Marks.{set_of};
-ghost use Rattle.step_parts.specs.Facts.{Facts};
-ghost use Rattle.codegen.specs.Block.{Body, is_constant, one_arm_head, match_head, equal_head, loop_head};
+ghost use Rattle.emits.specs.Runs.{Emits};
+ghost use Rattle.emits.specs.Sinks.{Shows};
+ghost use Rattle.context.specs.Context.{SameButRefs};
+ghost use Rattle.body.specs.Told.{env_in, row_in, body_told, Fits};
+ghost use Rattle.step_parts.specs.Loops.{iterator_line};
 
+use body::Body;
 use consts::pieces::{put_break, put_var};
-use emits::Written;
+use context::body_context::BodyContext;
 use expr::{emit_expr, emit_source};
 use pattern::constraint::emit_constraint;
-use text::sink::put_bytes;
+use row_frames::is_constant;
+use text::sink::Sink;
 use view::block::Constraint;
 
-fn is_constant(c: Constraint) -> bool
-    ensures { result ≡ is_constant (constraint_told c) }
-{
-    match c {
-        Constraint::ConstBool { .. } => true,
-        Constraint::ConstInt { .. } => true,
-        Constraint::ConstPrim { .. } => true,
-        Constraint::Variant { .. } => false,
-        Constraint::Struct { .. } => false,
-        Constraint::Some => false,
-    }
-}
-
-// A match with one arm, which is row r; `bound` has the arm's bindings. Of a constant the source comes first.
-fn constant_head(
-    out: &mut [u8],
-    end: usize,
-    at: usize,
-    odd: usize,
-    refs: &mut [bool],
-    bound: &[bool],
-    plan: &[u8],
-    words: &[u32],
-    rows: &[u32],
-    tables: &[u32],
-    index: &[u32],
-    t: usize,
-    depth: usize,
-    q: usize,
-    k: Constraint,
-    r: usize,
-) -> Written
-    ensures { (env : Environment) (c : Body) → Facts env c plan.now words.now rows.now tables.now index.now t → depth + q < 4611686018427387904 → is_constant (constraint_told k) ≡ true → Emits end env depth (one_arm_head c (set_of bound.now) q (constraint_told k) (patterns_in (drop 7 (cut words.now rows.now r)))) out.old at odd (set_of refs.old) out.new result.at result.odd (set_of refs.new) }
-{
-    let at = put_bytes(out, at, end, b"if ");
-    let w = emit_expr(
-        out, end, at, odd, refs, bound, plan, words, rows, tables, index, t, depth, q,
-    );
-    let at = put_bytes(out, w.at, end, b" == ");
-    let w = emit_constraint(
-        out, end, at, w.odd, refs, plan, words, rows, tables, index, depth, q, k, r,
-    );
-    let at = put_bytes(out, w.at, end, b" {");
-    Written { at: at, odd: w.odd }
-}
-
-fn pattern_head(
-    out: &mut [u8],
-    end: usize,
-    at: usize,
-    odd: usize,
-    refs: &mut [bool],
-    bound: &[bool],
-    plan: &[u8],
-    words: &[u32],
-    rows: &[u32],
-    tables: &[u32],
-    index: &[u32],
-    t: usize,
-    depth: usize,
-    q: usize,
-    k: Constraint,
-    r: usize,
-) -> Written
-    ensures { (env : Environment) (c : Body) → Facts env c plan.now words.now rows.now tables.now index.now t → depth + q < 4611686018427387904 → is_constant (constraint_told k) ≡ false → Emits end env depth (one_arm_head c (set_of bound.now) q (constraint_told k) (patterns_in (drop 7 (cut words.now rows.now r)))) out.old at odd (set_of refs.old) out.new result.at result.odd (set_of refs.new) }
-{
-    let at = put_bytes(out, at, end, b"if let ");
-    let w = emit_constraint(
-        out, end, at, odd, refs, plan, words, rows, tables, index, depth, q, k, r,
-    );
-    let at = put_bytes(out, w.at, end, b" = ");
-    let w = emit_source(
-        out, end, at, w.odd, refs, bound, plan, words, rows, tables, index, t, depth, q, k,
-    );
-    let at = put_bytes(out, w.at, end, b" {");
-    Written { at: at, odd: w.odd }
-}
-
-// codegen.rs 742
+// codegen.rs 742: a match with one arm, which is row r and whose bindings have names already. Of a constant the source comes first.
 pub fn one_arm_head(
-    out: &mut [u8],
-    end: usize,
-    at: usize,
-    odd: usize,
-    refs: &mut [bool],
-    bound: &[bool],
-    plan: &[u8],
-    words: &[u32],
-    rows: &[u32],
-    tables: &[u32],
-    index: &[u32],
-    t: usize,
-    depth: usize,
+    w: &mut Sink<'_>,
+    body: &Body<'_>,
+    context: &mut BodyContext,
     q: usize,
     k: Constraint,
     r: usize,
-) -> Written
-    ensures { (env : Environment) (c : Body) → Facts env c plan.now words.now rows.now tables.now index.now t → depth + q < 4611686018427387904 → Emits end env depth (one_arm_head c (set_of bound.now) q (constraint_told k) (patterns_in (drop 7 (cut words.now rows.now r)))) out.old at odd (set_of refs.old) out.new result.at result.odd (set_of refs.new) }
+)
+    ensures emits { Fits body.now → context.old.nesting.depth + q < 4611686018427387904 → Emits (env_in body.now) context.old.nesting.depth (one_arm_head (body_told body.now) (set_of context.old.is_bound) q (constraint_told k) (patterns_in (drop 7 (row_in body.now r)))) w.old (set_of context.old.is_ref) w.new (set_of context.new.is_ref) }
+    ensures same { SameButRefs context.old context.new }
 {
+    let depth = context.nesting.depth;
     if is_constant(k) {
-        return constant_head(
-            out, end, at, odd, refs, bound, plan, words, rows, tables, index, t, depth, q, k, r,
+        w.put_bytes(b"if ");
+        emit_expr(
+            w,
+            body.plan,
+            &mut context.is_ref,
+            &context.is_bound,
+            body.t,
+            depth,
+            q,
+        );
+        w.put_bytes(b" == ");
+        emit_constraint(w, body.plan, &mut context.is_ref, depth, q, k, r);
+    } else {
+        w.put_bytes(b"if let ");
+        emit_constraint(w, body.plan, &mut context.is_ref, depth, q, k, r);
+        w.put_bytes(b" = ");
+        emit_source(
+            w,
+            body.plan,
+            &mut context.is_ref,
+            &context.is_bound,
+            body.t,
+            depth,
+            q,
+            k,
         );
     }
-    pattern_head(
-        out, end, at, odd, refs, bound, plan, words, rows, tables, index, t, depth, q, k, r,
-    )
+    w.put_bytes(b" {");
 }
 
 // codegen.rs 767: another match, by its first arm's constraint.
 pub fn match_head(
-    out: &mut [u8],
-    end: usize,
-    at: usize,
-    odd: usize,
-    refs: &mut [bool],
-    bound: &[bool],
-    plan: &[u8],
-    words: &[u32],
-    rows: &[u32],
-    tables: &[u32],
-    index: &[u32],
-    t: usize,
-    depth: usize,
+    w: &mut Sink<'_>,
+    body: &Body<'_>,
+    context: &mut BodyContext,
     q: usize,
     k: Constraint,
-) -> Written
-    ensures { (env : Environment) (c : Body) → Facts env c plan.now words.now rows.now tables.now index.now t → depth + q < 4611686018427387904 → Emits end env depth (match_head c (set_of bound.now) q (constraint_told k)) out.old at odd (set_of refs.old) out.new result.at result.odd (set_of refs.new) }
+)
+    ensures emits { Fits body.now → context.old.nesting.depth + q < 4611686018427387904 → Emits (env_in body.now) context.old.nesting.depth (match_head (body_told body.now) (set_of context.old.is_bound) q (constraint_told k)) w.old (set_of context.old.is_ref) w.new (set_of context.new.is_ref) }
+    ensures same { SameButRefs context.old context.new }
 {
-    let at = put_bytes(out, at, end, b"match ");
-    let w = emit_source(
-        out, end, at, odd, refs, bound, plan, words, rows, tables, index, t, depth, q, k,
+    let depth = context.nesting.depth;
+    w.put_bytes(b"match ");
+    emit_source(
+        w,
+        body.plan,
+        &mut context.is_ref,
+        &context.is_bound,
+        body.t,
+        depth,
+        q,
+        k,
     );
-    let at = put_bytes(out, w.at, end, b" {");
-    Written { at: at, odd: w.odd }
+    w.put_bytes(b" {");
 }
 
 // codegen.rs 779
-pub fn equal_head(
-    out: &mut [u8],
-    end: usize,
-    at: usize,
-    odd: usize,
-    refs: &mut [bool],
-    bound: &[bool],
-    plan: &[u8],
-    words: &[u32],
-    rows: &[u32],
-    tables: &[u32],
-    index: &[u32],
-    t: usize,
-    depth: usize,
-    a: usize,
-    b: usize,
-) -> Written
-    ensures { (env : Environment) (c : Body) → Facts env c plan.now words.now rows.now tables.now index.now t → depth + a < 4611686018427387904 → depth + b < 4611686018427387904 → Emits end env depth (equal_head c (set_of bound.now) a b) out.old at odd (set_of refs.old) out.new result.at result.odd (set_of refs.new) }
+pub fn equal_head(w: &mut Sink<'_>, body: &Body<'_>, context: &mut BodyContext, a: usize, b: usize)
+    ensures emits { Fits body.now → context.old.nesting.depth + a < 4611686018427387904 → context.old.nesting.depth + b < 4611686018427387904 → Emits (env_in body.now) context.old.nesting.depth (equal_head (body_told body.now) (set_of context.old.is_bound) a b) w.old (set_of context.old.is_ref) w.new (set_of context.new.is_ref) }
+    ensures same { SameButRefs context.old context.new }
 {
-    let at = put_bytes(out, at, end, b"if ");
-    let w = emit_expr(
-        out, end, at, odd, refs, bound, plan, words, rows, tables, index, t, depth, a,
+    let depth = context.nesting.depth;
+    w.put_bytes(b"if ");
+    emit_expr(
+        w,
+        body.plan,
+        &mut context.is_ref,
+        &context.is_bound,
+        body.t,
+        depth,
+        a,
     );
-    let at = put_bytes(out, w.at, end, b" == ");
-    let w = emit_expr(
-        out, end, at, w.odd, refs, bound, plan, words, rows, tables, index, t, depth, b,
+    w.put_bytes(b" == ");
+    emit_expr(
+        w,
+        body.plan,
+        &mut context.is_ref,
+        &context.is_bound,
+        body.t,
+        depth,
+        b,
     );
-    let at = put_bytes(out, w.at, end, b" {");
-    Written { at: at, odd: w.odd }
+    w.put_bytes(b" {");
 }
 
 // codegen.rs 789: the iterator q gets a name of its own again.
-fn put_iterator(out: &mut [u8], at: usize, end: usize, depth: usize, q: usize) -> usize
-    ensures { (env : Environment) → Shows end env depth (iterator_line q) out.old at out.new result }
+fn put_iterator(w: &mut Sink<'_>, depth: usize, q: usize)
+    ensures { (env : Environment) → Shows env depth (iterator_line q) w.old w.new }
 {
-    let at = put_bytes(out, at, end, b"let mut ");
-    let at = put_var(out, at, end, q);
-    let at = put_bytes(out, at, end, b" = ");
-    let at = put_var(out, at, end, q);
-    let at = put_bytes(out, at, end, b".into_context_iter();");
-    put_break(out, at, end, depth, 0)
+    w.put_bytes(b"let mut ");
+    put_var(w, q);
+    w.put_bytes(b" = ");
+    put_var(w, q);
+    w.put_bytes(b".into_context_iter();");
+    put_break(w, depth, 0);
 }
 
 // Result r of the iterator q.
-pub fn loop_head(out: &mut [u8], at: usize, end: usize, depth: usize, r: usize, q: usize) -> usize
-    ensures { (env : Environment) → Shows end env depth (loop_head r q) out.old at out.new result }
+pub fn loop_head(w: &mut Sink<'_>, depth: usize, r: usize, q: usize)
+    ensures { (env : Environment) → Shows env depth (loop_head r q) w.old w.new }
 {
-    let at = put_iterator(out, at, end, depth, q);
-    let at = put_bytes(out, at, end, b"while let Some(");
-    let at = put_var(out, at, end, r);
-    let at = put_bytes(out, at, end, b") = ");
-    let at = put_var(out, at, end, q);
-    let at = put_bytes(out, at, end, b".next(ctx)");
-    put_bytes(out, at, end, b" {")
+    put_iterator(w, depth, q);
+    w.put_bytes(b"while let Some(");
+    put_var(w, r);
+    w.put_bytes(b") = ");
+    put_var(w, q);
+    w.put_bytes(b".next(ctx)");
+    w.put_bytes(b" {");
 }

@@ -1,2 +1,4 @@
 pub mod CheckLaws
 pub mod LetLaws
+pub mod OddLaws
+pub mod SmallLaws

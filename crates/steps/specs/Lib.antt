@@ -1,2 +1,1 @@
-pub mod OwnLaws
-pub mod Told
+pub mod Small

@@ -1,158 +1,108 @@
 // A step's own line: codegen.rs 740.
-ghost use Rattle.std.specs.Prelude.{◌≡◌, List, map, ℕ, suc, ◌+◌, ◌-◌, ◌<◌, ltb, length};
-ghost use Rattle.std.proofs.Math.Option.{some};
-ghost use Rattle.plan.specs.Plan.{Environment};
-ghost use Rattle.rows.specs.View.{nth, block_of};
-ghost use Rattle.layout.specs.View.{cut, cuts};
-ghost use Rattle.view.specs.Told.{control_flow_of};
-ghost use Rattle.emits.specs.Marks.{set_of};
-ghost use Rattle.step_parts.specs.Facts.{Facts};
-ghost use Rattle.codegen.specs.Block.{Body, Frame, closures, place, emit_check};
-ghost use Rattle.codegen.specs.Writer.{Marks, insert};
+ghost use Rattle.std.specs.Prelude.{List, ℕ, ◌+◌, ◌<◌, ◌≡◌};
 ghost use Rattle.plan.specs.Row as row;
-ghost use Rattle.sema.specs.Signature.{return_kind_told};
-ghost use Rattle.step_parts.specs.Leads.{Leads, LinesLead};
-ghost use Rattle.steps.specs.Told.{opens_told};
 ghost use Rattle.plan.specs.Row.{Row};
+ghost use Rattle.codegen.specs.Block.{emit_check};
+ghost use Rattle.rows.specs.View.{nth};
+ghost use Rattle.view.specs.Buffers.{words_of};
+ghost use Rattle.view.specs.Told.{control_flow_told, control_flow_of};
+ghost use Rattle.emits.specs.Marks.{set_of};
+ghost use Rattle.row_frames.specs.Rows.{rows_from};
+ghost use Rattle.row_frames.specs.Told.{opens_told};
+ghost use Rattle.body.specs.Told.{row_in, rows_in, body_told};
+ghost use Rattle.body.specs.Own.{WritesOwn};
+ghost use Rattle.steps.specs.Small.{word_bound, SmallFlow};
 
 use super::matches::emit_match;
-use super::{Checked, Opens, Purpose};
-use emits::Written;
+use body::Body;
+use context::body_context::BodyContext;
 use emits::stablemapset::insert;
-use expr_parts::binding_row;
+use expr_parts::{SOURCES, binding_row};
 use returns::emit_return;
-use sema::signature::ReturnKind;
+use row_frames::Purpose;
 use step_parts::heads::{equal_head, loop_head};
-use text::sink::{put_byte, put_indent};
-use view::block::{ControlFlow, control_flow_at};
+use text::sink::Sink;
+use view::block::ControlFlow;
+use view::buffers::Plan;
 
 // codegen.rs 779
 fn emit_equal(
-    out: &mut [u8],
-    end: usize,
-    at: usize,
-    odd: usize,
-    refs: &mut [bool],
-    bound: &[bool],
-    plan: &[u8],
-    words: &[u32],
-    rows: &[u32],
-    tables: &[u32],
-    index: &[u32],
-    t: usize,
-    depth: usize,
+    w: &mut Sink<'_>,
+    body: &Body<'_>,
+    context: &mut BodyContext,
     a: usize,
     b: usize,
-) -> Written
-    ensures { (env : Environment) (c : Body) (i : ℕ) (fs : List Frame) (l : ℕ) (rs : List Row) → Facts env c plan.now words.now rows.now tables.now index.now t → depth ≡ closures fs + suc (length fs) → depth + a < 4611686018427387904 → depth + b < 4611686018427387904 → LinesLead end env (some i) fs (λ x. (emit_check c x (set_of bound.now) l (row.Equal a b) rs).lines) (λ x. (emit_check c x (set_of bound.now) l (row.Equal a b) rs).refs) out.old at odd (set_of refs.old) out.new result.at result.odd (set_of refs.new) }
+) -> Option<Purpose>
+    ensures { (l : ℕ) (rs : List Row) → WritesOwn ((context.old.nesting.depth + a < 4611686018427387904) × (context.old.nesting.depth + b < 4611686018427387904)) body.now (λ q. emit_check (body_told body.now) q (set_of context.old.is_bound) l (row.Equal a b) rs) w.old context.old (opens_told result) w.new context.new }
 {
-    let at = put_indent(out, at, end, depth);
-    let w = equal_head(
-        out, end, at, odd, refs, bound, plan, words, rows, tables, index, t, depth, a, b,
-    );
-    let at = put_byte(out, w.at, end, 10);
-    Written { at: at, odd: w.odd }
+    w.put_indent(context.nesting.depth);
+    equal_head(w, body, context, a, b);
+    w.put_byte(b'\n');
+    Some(Purpose::Body)
 }
 
 // codegen.rs 789: the result has a name inside the loop.
 fn emit_loop(
-    out: &mut [u8],
-    at: usize,
-    end: usize,
-    bound: &mut [bool],
-    plan: &[u8],
-    words: &[u32],
-    rows: &[u32],
-    tables: &[u32],
-    index: &[u32],
-    t: usize,
-    depth: usize,
+    w: &mut Sink<'_>,
+    body: &Body<'_>,
+    context: &mut BodyContext,
     r: usize,
-) -> usize
-    ensures { ((env : Environment) (c : Body) (i : ℕ) (fs : List Frame) (l : ℕ) (rs : List Row) (n : ℕ) (q : Marks) → Facts env c plan.now words.now rows.now tables.now index.now t → depth ≡ closures fs + suc (length fs) → LinesLead end env (some i) fs (λ x. (emit_check c x (set_of bound.old) l (row.Loop r) rs).lines) (λ x. (emit_check c x (set_of bound.old) l (row.Loop r) rs).refs) out.old at n q out.new result n q) × (set_of bound.new ≡ insert (set_of bound.old) r) }
+) -> Option<Purpose>
+    ensures { (l : ℕ) (rs : List Row) → WritesOwn (Unit {0}) body.now (λ q. emit_check (body_told body.now) q (set_of context.old.is_bound) l (row.Loop r) rs) w.old context.old (opens_told result) w.new context.new }
 {
-    let row = binding_row(rows, tables, t, r);
-    let q = view::word(words, rows, row, 6);
-    insert(bound, r);
-    let at = put_indent(out, at, end, depth);
-    let at = loop_head(out, at, end, depth, r, q);
-    put_byte(out, at, end, 10)
+    let row = binding_row(body.plan, body.t, r);
+    let q = body.plan.list_word(row, SOURCES, 0);
+    insert(&mut context.is_bound, r);
+    w.put_indent(context.nesting.depth);
+    loop_head(w, context.nesting.depth, r, q);
+    w.put_byte(b'\n');
+    Some(Purpose::Body)
 }
 
 // The row after row r; where r is not before row `last`, no row stands from it on.
+#[tactic(auto, using(row_frames::specs::Rows::rows_none))]
 fn after(r: usize, last: usize) -> usize
-    ensures { (words rows : List ℕ) → map block_of (cuts words rows result (last - result)) ≡ map block_of (cuts words rows (r + 1) (last - (r + 1))) }
+    ensures { (words rows : List ℕ) → rows_from words rows last result ≡ rows_from words rows last (r + 1) }
 {
-    if r < last {
-        return r + 1;
-    }
-    last
+    if r < last { r + 1 } else { last }
+}
+
+// Each word is a number of 32 bits, which the check knows of a slice that is read.
+fn know_words(row: &[u32])
+    ensures { (k : ℕ) → nth row.now k < word_bound }
+{
+    let _count = row.len();
+}
+
+// What row r, a step, does: the numbers of its bindings are words of the plan.
+fn control_flow_at(plan: &Plan<'_>, r: usize) -> ControlFlow
+    ensures told { control_flow_told result ≡ control_flow_of (words_of plan.now r) }
+    ensures small { SmallFlow (control_flow_told result) }
+{
+    know_words(plan.row(r));
+    plan.control_flow_at(r)
 }
 
 // Row r, a step, where the rows after it up to row `last` stand.
 pub fn emit_check(
-    out: &mut [u8],
-    end: usize,
-    at: usize,
-    odd: usize,
-    refs: &mut [bool],
-    bound: &mut [bool],
-    plan: &[u8],
-    words: &[u32],
-    rows: &[u32],
-    tables: &[u32],
-    index: &[u32],
-    t: usize,
+    w: &mut Sink<'_>,
+    body: &Body<'_>,
+    context: &mut BodyContext,
     r: usize,
     last: usize,
-    depth: usize,
-    in_closure: bool,
-    log: bool,
-    ret_kind: ReturnKind,
-    term_name: usize,
-) -> Checked
-    ensures { ((env : Environment) (c : Body) (i : ℕ) (fs : List Frame) → Facts env c plan.now words.now rows.now tables.now index.now t → c.log ≡ log → c.ret_kind ≡ return_kind_told ret_kind → c.term_name ≡ term_name → depth ≡ closures fs + suc (length fs) → depth < 4294967296 → in_closure ≡ ltb 0 (closures fs) → Leads end env (λ x. place (some i) fs (emit_check c x (set_of bound.old) (nth (cut words.now rows.now r) 0) (control_flow_of (cut words.now rows.now r)) (map block_of (cuts words.now rows.now (r + 1) (last - (r + 1))))).lines) (λ x. (emit_check c x (set_of bound.old) (nth (cut words.now rows.now r) 0) (control_flow_of (cut words.now rows.now r)) (map block_of (cuts words.now rows.now (r + 1) (last - (r + 1))))).refs) out.old at odd (set_of refs.old) out.new result.at result.odd (set_of refs.new)) × ((c : Body) (x : Marks) → (opens_told result.opens ≡ (emit_check c x (set_of bound.old) (nth (cut words.now rows.now r) 0) (control_flow_of (cut words.now rows.now r)) (map block_of (cuts words.now rows.now (r + 1) (last - (r + 1))))).frame) × (set_of bound.new ≡ (emit_check c x (set_of bound.old) (nth (cut words.now rows.now r) 0) (control_flow_of (cut words.now rows.now r)) (map block_of (cuts words.now rows.now (r + 1) (last - (r + 1))))).bound)) }
+) -> Option<Purpose>
+    ensures { WritesOwn (context.old.nesting.depth < 4294967296) body.now (λ q. emit_check (body_told body.now) q (set_of context.old.is_bound) (nth (row_in body.now r) 0) (control_flow_of (row_in body.now r)) (rows_in body.now last (r + 1))) w.old context.old (opens_told result) w.new context.new }
 {
-    let level = view::word(words, rows, r, 0);
-    let k = control_flow_at(words, rows, r);
-    match k {
+    match control_flow_at(body.plan, r) {
         ControlFlow::Match { source } => {
-            let first = after(r, last);
-            emit_match(
-                out, end, at, odd, refs, bound, plan, words, rows, tables, index, t, level, first,
-                last, depth, source,
-            )
+            let level = body.plan.word(r, 0);
+            emit_match(w, body, context, level, after(r, last), last, source)
         }
-        ControlFlow::Equal { a, b } => {
-            let w = emit_equal(
-                out, end, at, odd, refs, bound, plan, words, rows, tables, index, t, depth, a, b,
-            );
-            Checked {
-                at: w.at,
-                odd: w.odd,
-                opens: Opens::Frame(Purpose::Body),
-            }
-        }
-        ControlFlow::Loop { result } => {
-            let at = emit_loop(
-                out, at, end, bound, plan, words, rows, tables, index, t, depth, result,
-            );
-            Checked {
-                at: at,
-                odd: odd,
-                opens: Opens::Frame(Purpose::Body),
-            }
-        }
+        ControlFlow::Equal { a, b } => emit_equal(w, body, context, a, b),
+        ControlFlow::Loop { result } => emit_loop(w, body, context, result),
         ControlFlow::Return { result, pos } => {
-            let w = emit_return(
-                out, end, at, odd, refs, bound, plan, words, rows, tables, index, t, depth,
-                in_closure, log, ret_kind, term_name, result, pos,
-            );
-            Checked {
-                at: w.at,
-                odd: w.odd,
-                opens: Opens::Nothing,
-            }
+            emit_return(w, body, context, result, pos);
+            None
         }
     }
 }

@@ -1,103 +1,53 @@
 // The bindings that a step names before its own line: codegen.rs 686, `bind_order`.
-ghost use Rattle.std.specs.Prelude.{◌≡◌, List, ℕ, suc, ◌+◌, ◌<◌, length, drop};
-ghost use Rattle.std.proofs.Math.Option.{some};
-ghost use Rattle.plan.specs.Plan.{Environment};
-ghost use Rattle.layout.specs.View.{cut};
-ghost use Rattle.emits.specs.Emits.{Emits};
+ghost use Rattle.std.specs.Prelude.{◌+◌, ◌<◌, [], ◌∷◌, drop};
+ghost use Rattle.std.proofs.Math.Option.{none};
+ghost use Rattle.codegen.specs.Block.{let_line, lets};
 ghost use Rattle.emits.specs.Marks.{set_of};
-ghost use Rattle.step_parts.specs.Facts.{Facts};
-ghost use Rattle.codegen.specs.Block.{Body, Frame, closures, place, let_line, lets};
-ghost use Rattle.codegen.specs.Writer.{Marks, insert};
-ghost use Rattle.step_parts.specs.Leads.{Leads, said_line, said_refs, LinesLead};
+ghost use Rattle.emits.specs.Runs.{Emits};
+ghost use Rattle.context.specs.Context.{SameButRefs};
+ghost use Rattle.body.specs.Told.{env_in, row_in, body_told, Fits};
+ghost use Rattle.body.specs.Own.{WritesOwn, lets_own};
 
-use emits::Written;
+use body::Body;
+use context::body_context::BodyContext;
 use emits::stablemapset::insert;
 use expr::emit_expr;
 use step_parts::buffer::let_head;
-use text::sink::{put_byte, put_bytes, put_indent};
+use text::sink::Sink;
 
-fn let_line(
-    out: &mut [u8],
-    end: usize,
-    at: usize,
-    odd: usize,
-    refs: &mut [bool],
-    bound: &[bool],
-    plan: &[u8],
-    words: &[u32],
-    rows: &[u32],
-    tables: &[u32],
-    index: &[u32],
-    t: usize,
-    depth: usize,
-    b: usize,
-) -> Written
-    ensures { (env : Environment) (c : Body) → Facts env c plan.now words.now rows.now tables.now index.now t → depth + b < 4611686018427387904 → Emits end env depth (let_line c (set_of bound.now) b) out.old at odd (set_of refs.old) out.new result.at result.odd (set_of refs.new) }
+fn let_line(w: &mut Sink<'_>, body: &Body<'_>, context: &mut BodyContext, b: usize)
+    ensures emits { Fits body.now → context.old.nesting.depth + b < 4611686018427387904 → Emits (env_in body.now) context.old.nesting.depth (let_line (body_told body.now) (set_of context.old.is_bound) b) w.old (set_of context.old.is_ref) w.new (set_of context.new.is_ref) }
+    ensures same { SameButRefs context.old context.new }
 {
-    let at = let_head(out, at, end, plan, words, rows, tables, t, depth, b);
-    let w = emit_expr(
-        out, end, at, odd, refs, bound, plan, words, rows, tables, index, t, depth, b,
+    let depth = context.nesting.depth;
+    let_head(w, body, depth, b);
+    emit_expr(
+        w,
+        body.plan,
+        &mut context.is_ref,
+        &context.is_bound,
+        body.t,
+        depth,
+        b,
     );
-    let at = put_bytes(out, w.at, end, b";");
-    Written { at: at, odd: w.odd }
+    w.put_bytes(b";");
 }
 
 // One binding, which has a name from the line after its own on.
-fn emit_let(
-    out: &mut [u8],
-    end: usize,
-    at: usize,
-    odd: usize,
-    refs: &mut [bool],
-    bound: &mut [bool],
-    plan: &[u8],
-    words: &[u32],
-    rows: &[u32],
-    tables: &[u32],
-    index: &[u32],
-    t: usize,
-    depth: usize,
-    b: usize,
-) -> Written
-    ensures { ((env : Environment) (c : Body) (i : ℕ) (fs : List Frame) → Facts env c plan.now words.now rows.now tables.now index.now t → depth ≡ closures fs + suc (length fs) → depth + b < 4611686018427387904 → LinesLead end env (some i) fs (said_line (let_line c (set_of bound.old) b)) (said_refs (let_line c (set_of bound.old) b)) out.old at odd (set_of refs.old) out.new result.at result.odd (set_of refs.new)) × (set_of bound.new ≡ insert (set_of bound.old) b) }
+fn emit_let(w: &mut Sink<'_>, body: &Body<'_>, context: &mut BodyContext, b: usize)
+    ensures { WritesOwn (context.old.nesting.depth + b < 4611686018427387904) body.now (λ q. lets_own (lets (body_told body.now) (b ∷ []) q (set_of context.old.is_bound))) w.old context.old none w.new context.new }
 {
-    let at = put_indent(out, at, end, depth);
-    let w = let_line(
-        out, end, at, odd, refs, bound, plan, words, rows, tables, index, t, depth, b,
-    );
-    insert(bound, b);
-    let at = put_byte(out, w.at, end, 10);
-    Written { at: at, odd: w.odd }
+    w.put_indent(context.nesting.depth);
+    let_line(w, body, context, b);
+    insert(&mut context.is_bound, b);
+    w.put_byte(b'\n');
 }
 
 // The bindings of row r, a step, in order.
-pub fn emit_lets(
-    out: &mut [u8],
-    end: usize,
-    at: usize,
-    odd: usize,
-    refs: &mut [bool],
-    bound: &mut [bool],
-    plan: &[u8],
-    words: &[u32],
-    rows: &[u32],
-    tables: &[u32],
-    index: &[u32],
-    t: usize,
-    r: usize,
-    depth: usize,
-) -> Written
-    ensures { ((env : Environment) (c : Body) (i : ℕ) (fs : List Frame) → Facts env c plan.now words.now rows.now tables.now index.now t → depth ≡ closures fs + suc (length fs) → depth < 4294967296 → Leads end env (λ q. place (some i) fs (lets c (drop 7 (cut words.now rows.now r)) q (set_of bound.old)).lines) (λ q. (lets c (drop 7 (cut words.now rows.now r)) q (set_of bound.old)).refs) out.old at odd (set_of refs.old) out.new result.at result.odd (set_of refs.new)) × ((c : Body) (q : Marks) → set_of bound.new ≡ (lets c (drop 7 (cut words.now rows.now r)) q (set_of bound.old)).bound) }
+pub fn emit_lets(w: &mut Sink<'_>, body: &Body<'_>, context: &mut BodyContext, r: usize)
+    ensures { WritesOwn (context.old.nesting.depth < 4294967296) body.now (λ q. lets_own (lets (body_told body.now) (drop 7 (row_in body.now r)) q (set_of context.old.is_bound))) w.old context.old none w.new context.new }
 {
-    let last = view::row_len(words, rows, r);
-    let mut w = Written { at: at, odd: odd };
-    let mut k = 7;
-    while k < last {
-        let b = view::word(words, rows, r, k);
-        w = emit_let(
-            out, end, w.at, w.odd, refs, bound, plan, words, rows, tables, index, t, depth, b,
-        );
-        k += 1;
+    for b in body.plan.row(r).iter().skip(7) {
+        emit_let(w, body, context, *b as usize);
     }
-    w
 }

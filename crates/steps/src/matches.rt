@@ -1,145 +1,78 @@
 // A match: codegen.rs 741 to 777.
-ghost use Rattle.std.specs.Prelude.{◌≡◌, List, map, ℕ, suc, ◌+◌, ◌-◌, ◌<◌, length, drop};
+ghost use Rattle.std.specs.Prelude.{◌+◌, ◌<◌, drop};
 ghost use Rattle.std.proofs.Math.Option.{some};
-ghost use Rattle.plan.specs.Plan.{Environment};
-ghost use Rattle.rows.specs.View.{patterns_in, block_of};
-ghost use Rattle.layout.specs.View.{cut, cuts};
+ghost use Rattle.plan.specs.Row as row;
+ghost use Rattle.codegen.specs.Block.{arms_of, one_arm, one_arm_head, match_head, opening, emit_check};
+ghost use Rattle.codegen.specs.Pattern.{bind_all};
+ghost use Rattle.codegen.specs.Writer.{said};
+ghost use Rattle.rows.specs.View.{patterns_in};
 ghost use Rattle.view.specs.Told.{constraint_told};
 ghost use Rattle.emits.specs.Marks.{set_of};
-ghost use Rattle.step_parts.specs.Facts.{Facts};
-ghost use Rattle.codegen.specs.Block.{Body, Frame, closures, one_arm_head, match_head, emit_check};
-ghost use Rattle.codegen.specs.Writer.{Marks};
-ghost use Rattle.codegen.specs.Pattern.{bind_all};
-ghost use Rattle.plan.specs.Row as row;
-ghost use Rattle.step_parts.specs.Leads.{said_line, said_refs, LinesLead};
-ghost use Rattle.steps.specs.Told.{opens_told};
+ghost use Rattle.row_frames.specs.Told.{opens_told};
+ghost use Rattle.body.specs.Told.{row_in, rows_in, body_told};
+ghost use Rattle.body.specs.Own.{WritesOwn};
 
-use super::{Checked, Opens, Purpose};
-use emits::Written;
+use body::Body;
+use context::body_context::BodyContext;
 use pattern::bind::bind_all;
+use row_frames::Purpose;
 use step_parts::heads::{match_head, one_arm_head};
-use text::sink::{put_byte, put_indent};
-use view::block::{Constraint, constraint_at, is_step};
-use view::buffers::Plan;
+use text::sink::Sink;
+use view::block::Constraint;
+use weights::arm_count;
 
 // A match with one arm, which is row `first`: its bindings have names where its source is written, too.
 fn one_arm(
-    out: &mut [u8],
-    end: usize,
-    at: usize,
-    odd: usize,
-    refs: &mut [bool],
-    bound: &mut [bool],
-    plan: &[u8],
-    words: &[u32],
-    rows: &[u32],
-    tables: &[u32],
-    index: &[u32],
-    t: usize,
-    depth: usize,
+    w: &mut Sink<'_>,
+    body: &Body<'_>,
+    context: &mut BodyContext,
     q: usize,
     k: Constraint,
     first: usize,
-) -> Written
-    ensures { ((env : Environment) (c : Body) (i : ℕ) (fs : List Frame) → Facts env c plan.now words.now rows.now tables.now index.now t → depth ≡ closures fs + suc (length fs) → depth + q < 4611686018427387904 → LinesLead end env (some i) fs (said_line (one_arm_head c (bind_all (patterns_in (drop 7 (cut words.now rows.now first))) (set_of bound.old)) q (constraint_told k) (patterns_in (drop 7 (cut words.now rows.now first))))) (said_refs (one_arm_head c (bind_all (patterns_in (drop 7 (cut words.now rows.now first))) (set_of bound.old)) q (constraint_told k) (patterns_in (drop 7 (cut words.now rows.now first))))) out.old at odd (set_of refs.old) out.new result.at result.odd (set_of refs.new)) × (set_of bound.new ≡ bind_all (patterns_in (drop 7 (cut words.now rows.now first))) (set_of bound.old)) }
+)
+    ensures { let ps = patterns_in (drop 7 (row_in body.now first)) in let inside = bind_all ps (set_of context.old.is_bound) in WritesOwn (context.old.nesting.depth + q < 4611686018427387904) body.now (λ x. opening one_arm (set_of context.old.is_bound) inside (said (one_arm_head (body_told body.now) inside q (constraint_told k) ps) x)) w.old context.old (some one_arm) w.new context.new }
 {
-    bind_all(bound, words, rows, first);
-    let at = put_indent(out, at, end, depth);
-    let w = one_arm_head(
-        out, end, at, odd, refs, bound, plan, words, rows, tables, index, t, depth, q, k, first,
-    );
-    let at = put_byte(out, w.at, end, 10);
-    Written { at: at, odd: w.odd }
+    bind_all(&mut context.is_bound, body.plan, first);
+    w.put_indent(context.nesting.depth);
+    one_arm_head(w, body, context, q, k, first);
+    w.put_byte(b'\n');
 }
 
-// Another match, whose first arm is row `first`.
+// Another match, by the constraint of its first arm.
 fn several_arms(
-    out: &mut [u8],
-    end: usize,
-    at: usize,
-    odd: usize,
-    refs: &mut [bool],
-    bound: &[bool],
-    plan: &[u8],
-    words: &[u32],
-    rows: &[u32],
-    tables: &[u32],
-    index: &[u32],
-    t: usize,
-    depth: usize,
+    w: &mut Sink<'_>,
+    body: &Body<'_>,
+    context: &mut BodyContext,
     q: usize,
     k: Constraint,
-) -> Written
-    ensures { (env : Environment) (c : Body) (i : ℕ) (fs : List Frame) → Facts env c plan.now words.now rows.now tables.now index.now t → depth ≡ closures fs + suc (length fs) → depth + q < 4611686018427387904 → LinesLead end env (some i) fs (said_line (match_head c (set_of bound.now) q (constraint_told k))) (said_refs (match_head c (set_of bound.now) q (constraint_told k))) out.old at odd (set_of refs.old) out.new result.at result.odd (set_of refs.new) }
+)
+    ensures { let bound = set_of context.old.is_bound in WritesOwn (context.old.nesting.depth + q < 4611686018427387904) body.now (λ x. opening (arms_of q) bound bound (said (match_head (body_told body.now) bound q (constraint_told k)) x)) w.old context.old (some (arms_of q)) w.new context.new }
 {
-    let at = put_indent(out, at, end, depth);
-    let w = match_head(
-        out, end, at, odd, refs, bound, plan, words, rows, tables, index, t, depth, q, k,
-    );
-    let at = put_byte(out, w.at, end, 10);
-    Written { at: at, odd: w.odd }
+    w.put_indent(context.nesting.depth);
+    match_head(w, body, context, q, k);
+    w.put_byte(b'\n');
 }
 
-// The match of q, of a level, where the rows from row `first` up to row `last` stand after it.
+// The match of q, of a level, where the rows from row `first` up to row `last` stand after it. One that no arm follows writes nothing.
 pub fn emit_match(
-    out: &mut [u8],
-    end: usize,
-    at: usize,
-    odd: usize,
-    refs: &mut [bool],
-    bound: &mut [bool],
-    plan: &[u8],
-    words: &[u32],
-    rows: &[u32],
-    tables: &[u32],
-    index: &[u32],
-    t: usize,
+    w: &mut Sink<'_>,
+    body: &Body<'_>,
+    context: &mut BodyContext,
     level: usize,
     first: usize,
     last: usize,
-    depth: usize,
     q: usize,
-) -> Checked
-    ensures { ((env : Environment) (c : Body) (i : ℕ) (fs : List Frame) → Facts env c plan.now words.now rows.now tables.now index.now t → depth ≡ closures fs + suc (length fs) → depth + q < 4611686018427387904 → LinesLead end env (some i) fs (λ x. (emit_check c x (set_of bound.old) level (row.Match q) (map block_of (cuts words.now rows.now first (last - first)))).lines) (λ x. (emit_check c x (set_of bound.old) level (row.Match q) (map block_of (cuts words.now rows.now first (last - first)))).refs) out.old at odd (set_of refs.old) out.new result.at result.odd (set_of refs.new)) × ((c : Body) (x : Marks) → (opens_told result.opens ≡ (emit_check c x (set_of bound.old) level (row.Match q) (map block_of (cuts words.now rows.now first (last - first)))).frame) × (set_of bound.new ≡ (emit_check c x (set_of bound.old) level (row.Match q) (map block_of (cuts words.now rows.now first (last - first)))).bound)) }
+) -> Option<Purpose>
+    ensures { WritesOwn (context.old.nesting.depth + q < 4611686018427387904) body.now (λ x. emit_check (body_told body.now) x (set_of context.old.is_bound) level (row.Match q) (rows_in body.now last first)) w.old context.old (opens_told result) w.new context.new }
 {
-    if last <= first {
-        return Checked {
-            at: at,
-            odd: odd,
-            opens: Opens::Nothing,
-        };
+    if last <= first || body.plan.is_step(first) {
+        return None;
     }
-    if is_step(words, rows, first) {
-        return Checked {
-            at: at,
-            odd: odd,
-            opens: Opens::Nothing,
-        };
+    let k = body.plan.constraint_at(first);
+    if arm_count(body.plan, level, first, last) == 1 {
+        one_arm(w, body, context, q, k, first);
+        return Some(Purpose::OneArm);
     }
-    let k = constraint_at(words, rows, first);
-    let buffers = Plan {
-        bytes: plan,
-        words,
-        rows,
-        tables,
-        index,
-    };
-    if weights::arm_count(&buffers, level, first, last) == 1 {
-        let w = one_arm(
-            out, end, at, odd, refs, bound, plan, words, rows, tables, index, t, depth, q, k, first,
-        );
-        return Checked {
-            at: w.at,
-            odd: w.odd,
-            opens: Opens::Frame(Purpose::OneArm),
-        };
-    }
-    let w = several_arms(
-        out, end, at, odd, refs, bound, plan, words, rows, tables, index, t, depth, q, k,
-    );
-    Checked {
-        at: w.at,
-        odd: w.odd,
-        opens: Opens::Frame(Purpose::ArmsOf(q)),
-    }
+    several_arms(w, body, context, q, k);
+    Some(Purpose::ArmsOf(q))
 }

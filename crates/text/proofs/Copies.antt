@@ -1,12 +1,14 @@
 -- A part of a buffer that a text was copied into: as much of the text as the buffer has room for. Assumes nothing.
-use Rattle.std.specs.Prelude.{ℕ, ◌+◌, ◌-◌, ◌*◌, ◌≤◌, ◌<◌, min, ◌≡◌, refl, Bool, true, false, List, ◌++◌, ltb, length, replicate, take, drop}
+use Rattle.std.specs.Prelude.{ℕ, ◌+◌, ◌-◌, ◌≤◌, ◌<◌, min, ◌≡◌, refl, Bool, true, false, List, ◌++◌, ltb, length, replicate, take, drop}
 use Rattle.std.proofs.Common.{sym, ◌∙◌, arith, length-take-le, take_all, ltb-true, ltb-false}
 use Rattle.std.proofs.lemmas.List.{take-append-drop, take-replicate}
 use Rattle.std.proofs.lemmas.List.Edits.{sets, sets-eq}
 use Rattle.std.proofs.lemmas.Slice.{put_mid-paste}
 use borrow.Rule.Slice.PartMut.{put_mid}
-use Rattle.text.specs.Sink.{Puts, spaces}
-use Rattle.text.specs.SinkLaws.{puts_held, puts_past, puts_over, sets_out, sets_take, length_spaces, part_cut}
+use Rattle.text.specs.Sink.{spaces}
+use Rattle.text.specs.Writes.{Writes, writes_nil, writes_over}
+use Rattle.text.specs.declared.sink.Sink.{Sink}
+use Rattle.text.specs.SinkLaws.{puts_held, sets_out, sets_take, part_cut}
 
 -- past the buffer's end there is no room
 outside : (o t : List ℕ) (at k : ℕ) → length o ≤ at → k ≡ 0 → put_mid (length o) k o (take k t) ≡ sets o at t
@@ -18,8 +20,8 @@ inside o t at k a b m =
     let w : sets o at (take k t) ≡ take at o ++ take k t ++ drop (at + k) o = rw l at (sets-eq (take k t) o at (rw l b)) in
     put_mid-paste at k o (take k t) (take k t) k refl refl (sym l) ∙ rw (take_all k (take k t) (rw l (omega arith))) (sym w) ∙ sets_take o at k t m
 
-pub puts_part : {e n first : ℕ} (t : List ℕ) {o : List ℕ} (at : ℕ) {u : List ℕ} (k : ℕ) → length t ≡ n → n < e - at → first ≡ min at (length o) → k ≡ min n (length o - at) → u ≡ take k t → Puts e t o at (put_mid first k o u) (at + n)
-puts_part {e} {n} {first} t {o} at {u} k l h f g q = puts_held (omega arith) (rw q (go (ltb at (length o)) refl)) (rw l)
+pub part_stored : {n first : ℕ} (t o : List ℕ) (at : ℕ) {u : List ℕ} (k : ℕ) → length t ≡ n → first ≡ min at (length o) → k ≡ min n (length o - first) → u ≡ take k t → put_mid first k o u ≡ sets o at t
+part_stored {n} {first} t o at {u} k l f g q = rw q (go (ltb at (length o)) refl)
   where
     go : (b : Bool) → ltb at (length o) ≡ b → put_mid first k o (take k t) ≡ sets o at t
     go true r =
@@ -36,21 +38,15 @@ pub taken_spaces : (n k m : ℕ) → m ≡ k → k ≤ n → replicate m 32 ≡ 
 unfolding spaces
 taken_spaces n k m q h = rw (q, take-replicate {X = ℕ} k n 32 h)
 
--- so many spaces as can be counted have no room in any buffer
-pub puts_levels : (d m : ℕ) {e : ℕ} {o : List ℕ} {at : ℕ} {o' : List ℕ} {at' : ℕ} → m ≡ min (d * 4) 18446744073709551615 → e < 18446744073709551616 → Puts e (spaces m) o at o' at' → Puts e (spaces (4 * d)) o at o' at'
-puts_levels d m {e} {o} {at} {o'} {at'} q h p = go (ltb (d * 4) 18446744073709551616) refl
-  where
-    go : (b : Bool) → ltb (d * 4) 18446744073709551616 ≡ b → Puts e (spaces (4 * d)) o at o' at'
-    go true r =
-        let s : d * 4 < 18446744073709551616 = ltb-true (d * 4) 18446744073709551616 r in
-        let i : m ≡ 4 * d = omega arith in
-        rw i at p
-    go false r =
-        let s : 18446744073709551616 ≤ d * 4 = ltb-false (d * 4) 18446744073709551616 r in
-        puts_past (rw length_spaces (omega arith)) (puts_over p (rw length_spaces (omega arith)))
+-- a text of n bytes that has room, and one that has not
+pub writes_stored : {t : List ℕ} {n : ℕ} {w w' : Sink} → length t ≡ n → ltb (w.at + n) w.end ≡ true → w'.out.ghost_name ≡ w.out.ghost_name → w'.end ≡ w.end → w'.odd ≡ w.odd → w'.out.now ≡ sets w.out.now w.at t → w'.at ≡ w.at + n → Writes t w w'
+writes_stored {t} {n} {w} l h a b c d e = let r : w.at + n < w.end = ltb-true (w.at + n) w.end h in record { buffer = a; end = b; odd = c; puts = puts_held (omega arith) d (rw l e) }
+
+pub writes_past : {t : List ℕ} {n : ℕ} {w : Sink} → length t ≡ n → ltb (w.at + n) w.end ≡ false → Writes t w (record { out = w.out; at = w.end; end = w.end; odd = w.odd })
+writes_past {t} {n} {w} l h = writes_over (omega (arith, ltb-false (w.at + n) w.end h))
 
 -- a part of a text, up to its end
-pub part_least : (first last n : ℕ) (t : List ℕ) → n ≡ min last (length t) → take (n - first) (drop first t) ≡ take (last - first) (drop first t)
+part_least : (first last n : ℕ) (t : List ℕ) → n ≡ min last (length t) → take (n - first) (drop first t) ≡ take (last - first) (drop first t)
 part_least first last n t q = go (ltb (length t) last) refl
   where
     go : (b : Bool) → ltb (length t) last ≡ b → take (n - first) (drop first t) ≡ take (last - first) (drop first t)
@@ -61,3 +57,10 @@ part_least first last n t q = go (ltb (length t) last) refl
         let s : last ≤ length t = ltb-false (length t) last r in
         let i : n ≡ last = omega arith in
         rw i
+
+-- a part of a text, put up to where the text ends; and one that ends where it begins, or before
+pub writes_part : (first last : ℕ) {n : ℕ} (t : List ℕ) {w w' : Sink} → n ≡ min last (length t) → Writes (take (n - first) (drop first t)) w w' → Writes (take (last - first) (drop first t)) w w'
+writes_part first last {n} t q p = rw (← part_least first last n t q) p
+
+pub writes_no_part : (first last : ℕ) {n : ℕ} (t : List ℕ) {w : Sink} → n ≡ min last (length t) → n ≤ first → Writes (take (last - first) (drop first t)) w w
+writes_no_part first last {n} t q h = let z : n - first ≡ 0 = omega arith in rw (← part_least first last n t q, z) writes_nil

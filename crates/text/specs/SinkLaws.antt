@@ -130,8 +130,8 @@ module _ {o : List ℕ} {at : ℕ} {t : List ℕ} {i : ℕ} {o₁ : List ℕ} (p
   pub stores_more : {x : ℕ} → i < length t → x ≡ get_or t i 0 → Stores o at t (i + 1) (set o₁ (at + i) x)
   stores_more {x} h q = record { is = rw (sets_suc o at i t h, p.is, q) }
 
-  pub stores_all : {e at' : ℕ} → at < e → min (length t) (length o - at) ≤ i → at' ≡ at + length t → Puts e t o at o₁ at'
-  stores_all h g r = puts_held h (p.is ∙ sets_take o at i t g) r
+  pub stores_all : min (length t) (length o - at) ≤ i → o₁ ≡ sets o at t
+  stores_all g = p.is ∙ sets_take o at i t g
 
 -- Runs of spaces.
 pub length_spaces : (n : ℕ) → length (spaces n) ≡ n

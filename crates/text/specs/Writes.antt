@@ -1,8 +1,8 @@
 -- `Puts` of a `Sink` of the code: the buffer, the position and one more than the room stand in one value. Assumes nothing.
-use Rattle.std.specs.Prelude.{ℕ, ◌-◌, ◌≡◌, refl, List, [], ◌++◌, length, take, drop}
-use Rattle.std.proofs.Common.{◌∙◌, subst}
+use Rattle.std.specs.Prelude.{ℕ, ◌+◌, ◌-◌, ◌≤◌, ◌≡◌, refl, List, [], ◌++◌, length, take, drop}
+use Rattle.std.proofs.Common.{◌∙◌, subst, arith}
 use Rattle.text.specs.Sink.{Puts}
-use Rattle.text.specs.SinkLaws.{◌then◌, puts_nil}
+use Rattle.text.specs.SinkLaws.{◌then◌, puts_nil, puts_past}
 use Rattle.text.specs.Filled.{Filled, puts_filled}
 use Rattle.text.specs.declared.sink.Sink.{Sink}
 
@@ -16,6 +16,10 @@ pub record Writes (t : List ℕ) (w w' : Sink) : Type 0 where
 -- the empty text
 pub writes_nil : {w : Sink} → Writes [] w w
 writes_nil = record { buffer = refl; end = refl; odd = refl; puts = puts_nil }
+
+-- a text that has no room
+pub writes_over : {t : List ℕ} {w : Sink} → w.end ≤ w.at + length t → Writes t w (record { out = w.out; at = w.end; end = w.end; odd = w.odd })
+writes_over h = record { buffer = refl; end = refl; odd = refl; puts = puts_past h (omega arith) }
 
 -- one text after another
 pub writes_then : {s t : List ℕ} {w w₁ w₂ : Sink} → Writes s w w₁ → Writes t w₁ w₂ → Writes (s ++ t) w w₂

@@ -1,14 +1,13 @@
 // Numbers put into the sink as digits, as Rust's `{}` and `{:x}` write them.
 // The digits are filled into a local array from its end, the last one first, and put as one text.
 ghost use Rattle.std.specs.Prelude.{◌≡◌, suc, ◌+◌, ◌-◌, ◌*◌, ◌/◌, ◌^◌, ◌≤◌, ◌<◌, length};
-ghost use Rattle.text.specs.Sink.{Puts};
 ghost use Rattle.text.specs.Writes.{Writes};
 ghost use Rattle.text.specs.Digits.{digits, digit, decimal, hexadecimal, signed};
 ghost use Rattle.text.specs.DigitsLaws.{padded};
 ghost use Rattle.text.specs.Filled.{Filled};
 ghost use Rattle.text.specs.Wide.{whole, Grouped};
 
-use super::sink::{Sink, put_bytes};
+use super::sink::Sink;
 
 // A number of 128 bits in two halves.
 #[derive(Clone, Copy, PartialEq, Eq)]
@@ -50,7 +49,7 @@ fn fill_padded<const B: u64, const K: usize>(text: &mut [u8; 40], first: usize, 
     rest
 }
 
-// The digits of n to the base B, before the place `first`: the place of the first one.
+// The digits of n to the base B, before the place `first`: the place of the first one. No `for`: it ends by what is left of the number.
 fn fill_digits<const B: u64>(text: &mut [u8; 40], first: usize, n: u64) -> usize
     requires { (2 ≤ B) × (B ≤ 16) × (1 ≤ first) × (first ≤ 40) × (n < B ^ first) × (length text.old ≡ 40) }
     ensures filled { Filled (digits B (suc n) n) first text.old result text.new }
@@ -81,14 +80,6 @@ fn fill_decimal(text: &mut [u8; 40], first: usize, n: u64) -> usize
         place -= 4;
     }
     fill_digits::<10>(text, place, rest)
-}
-
-pub fn put_decimal(out: &mut [u8], at: usize, end: usize, n: u64) -> usize
-    ensures { Puts end (decimal n) out.old at out.new result }
-{
-    let mut text = [0u8; 40];
-    let first = fill_decimal(&mut text, 40, n);
-    put_bytes(out, at, end, &text[first..])
 }
 
 // A number of 128 bits in groups of eight decimal digits. The powers of 2^32 are
@@ -142,7 +133,9 @@ impl Sink<'_> {
     pub fn put_decimal(&mut self, n: u64)
         ensures { Writes (decimal n) self.old self.new }
     {
-        self.at = put_decimal(self.out, self.at, self.end, n);
+        let mut text = [0u8; 40];
+        let first = fill_decimal(&mut text, 40, n);
+        self.put_bytes(&text[first..]);
     }
 
     // The hexadecimal digits, with no zeros in front.

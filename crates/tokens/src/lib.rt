@@ -6,7 +6,8 @@ ghost use Rattle.text.specs.Split.{split, same};
 ghost use Rattle.plan.specs.Layout.{number, hex_digit, hex_digits, hex_from};
 ghost use Rattle.tokens.specs.Token.{until, Columns, place, numeral, hex_value, hex_numeral, told};
 
-// The place of the first byte b of s at or after from, or the length of s where there is none.
+// The place of the first byte b of s at or after from, or the length of s where there is none: that is where a last item ends, and so no
+// Option.
 #[tactic(auto, using(crate::proofs::Laws::until_end, crate::proofs::Laws::until_here, crate::proofs::Laws::until_next))]
 pub fn find(s: &[u8], from: usize, b: u8) -> usize
     requires { from ≤ length s.now }

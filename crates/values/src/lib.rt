@@ -21,7 +21,7 @@ pub enum Cell {
     Threshold,
 }
 
-// What a value of four words is: an integer, or a value of one word with three zeros after it.
+// What a value of four words is: an integer, or a value of one word with three zeros after it. No Option: neither is the lack of the other.
 #[derive(Clone, Copy)]
 pub enum WideCell {
     Integer,

@@ -27,15 +27,6 @@ arm_past k a b h = by_five (k - 5) (omega arith) where
   by_five zero e = rw e refl
   by_five (suc m) e = rw e refl
 
--- k is none of the numbers below n
-abbrev pub NoneBelow : ℕ → ℕ → Type 0
-NoneBelow k zero = Unit
-NoneBelow k (suc n) = NoneBelow k n × (k ≡ n → ⊥)
-
-pub none_below : (k n : ℕ) → NoneBelow k n → n ≤ k
-none_below k zero h = omega arith
-none_below k (suc n) h = omega (arith, none_below k n h.0, h.1)
-
 -- WORDS
 
 module _ (ws : List ℕ) where

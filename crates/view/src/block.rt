@@ -1,8 +1,9 @@
 // The rows of a block: `ControlFlow` of serialize.rs 78, `Constraint` of trie_again.rs 171.
-ghost use Rattle.std.specs.Prelude.{◌≡◌, ltb};
-ghost use Rattle.rows.specs.View.{nth};
-ghost use Rattle.layout.specs.View.{cut};
+ghost use Rattle.std.specs.Prelude.{◌≡◌};
 ghost use Rattle.view.specs.Told.{constraint_told, constraint_of, control_flow_told, control_flow_of};
+
+use super::binding::half_in;
+use super::word_in;
 
 #[derive(Clone, Copy)]
 pub enum ControlFlow {
@@ -22,57 +23,50 @@ pub enum Constraint {
     Some,
 }
 
-// Whether row r is a step, and no arm.
-pub fn is_step(words: &[u32], rows: &[u32], r: usize) -> bool
-    ensures { result ≡ ltb (nth (cut words.now rows.now r) 1) 4 }
-{
-    super::word(words, rows, r, 1) < 4
-}
-
-// What row r, a step, does.
-pub fn control_flow_at(words: &[u32], rows: &[u32], r: usize) -> ControlFlow
-    ensures { control_flow_told result ≡ control_flow_of (cut words.now rows.now r) }
-{
-    let row = super::row(words, rows, r);
-    let k = super::word_in(row, 1);
-    let n = super::wide(super::word_in(row, 2));
-    match k {
-        0 => ControlFlow::Match { source: n },
-        1 => ControlFlow::Equal {
-            a: n,
-            b: super::wide(super::word_in(row, 3)),
-        },
-        2 => ControlFlow::Loop { result: n },
-        3 => ControlFlow::Return {
-            result: n,
-            pos: super::wide(super::word_in(row, 3)),
-        },
-        _ => ControlFlow::Match { source: n },
+impl ControlFlow {
+    // What a step's words say. The numbers of the kinds are the reader's, in the order of the plan's words.
+    pub fn of(row: &[u32]) -> ControlFlow
+        ensures { control_flow_told result ≡ control_flow_of row.now }
+    {
+        let k = word_in(row, 1);
+        let n = word_in(row, 2) as usize;
+        match k {
+            0 => ControlFlow::Match { source: n },
+            1 => ControlFlow::Equal {
+                a: n,
+                b: word_in(row, 3) as usize,
+            },
+            2 => ControlFlow::Loop { result: n },
+            3 => ControlFlow::Return {
+                result: n,
+                pos: word_in(row, 3) as usize,
+            },
+            _ => ControlFlow::Match { source: n },
+        }
     }
 }
 
-// What row r, an arm, asks. The kinds of arms come after those of steps.
-pub fn constraint_at(words: &[u32], rows: &[u32], r: usize) -> Constraint
-    ensures { constraint_told result ≡ constraint_of (cut words.now rows.now r) }
-{
-    let row = super::row(words, rows, r);
-    let k = super::word_in(row, 1);
-    let n = super::wide(super::word_in(row, 2));
-    if k <= 4 {
-        return Constraint::ConstBool { val: n == 1 };
-    }
-    match k {
-        5 => Constraint::ConstInt {
-            ty: n,
-            high: super::binding::half_in(row, 5, 6),
-            low: super::binding::half_in(row, 3, 4),
-        },
-        6 => Constraint::ConstPrim { val: n },
-        7 => Constraint::Variant {
-            ty: n,
-            variant: super::wide(super::word_in(row, 3)),
-        },
-        8 => Constraint::Struct { ty: n },
-        _ => Constraint::Some,
+impl Constraint {
+    // What an arm's words ask. The kinds of arms come after those of steps.
+    pub fn of(row: &[u32]) -> Constraint
+        ensures { constraint_told result ≡ constraint_of row.now }
+    {
+        let k = word_in(row, 1);
+        let n = word_in(row, 2) as usize;
+        match k {
+            0..=4 => Constraint::ConstBool { val: n == 1 },
+            5 => Constraint::ConstInt {
+                ty: n,
+                high: half_in(row, 5, 6),
+                low: half_in(row, 3, 4),
+            },
+            6 => Constraint::ConstPrim { val: n },
+            7 => Constraint::Variant {
+                ty: n,
+                variant: word_in(row, 3) as usize,
+            },
+            8 => Constraint::Struct { ty: n },
+            _ => Constraint::Some,
+        }
     }
 }

@@ -10,6 +10,7 @@ ghost use Rattle.view.specs.Buffers.{words_of, rows_of, variants_in};
 use super::binding::Binding;
 use super::block::{Constraint, ControlFlow};
 use super::environment::{FunctionKind, Shape, Term, TypeData, Variant};
+use super::{bound, next_bound, part, word_in};
 
 // `bytes` is the plan itself, `words` has the words of all rows, `rows` where each row's words end, `tables` where each table's rows
 // end, and `index` where the variants of each type stand (crate `variants`); before they are indexed it is empty.
@@ -27,42 +28,42 @@ impl<'a> Plan<'a> {
     pub fn row(&self, r: usize) -> &'a [u32]
         ensures { result.now ≡ words_of self.now r }
     {
-        super::row(self.words, self.rows, r)
+        part(self.words, self.rows, r)
     }
 
     // The word k of row r.
     pub fn word(&self, r: usize, k: usize) -> usize
         ensures { result ≡ nth (words_of self.now r) k }
     {
-        super::word(self.words, self.rows, r, k)
+        self.cell(r, k) as usize
     }
 
     // The same as it is stored.
     pub fn cell(&self, r: usize, k: usize) -> u32
         ensures { result ≡ nth (words_of self.now r) k }
     {
-        super::cell(self.words, self.rows, r, k)
+        word_in(self.row(r), k)
     }
 
     // Whether the word k of row r is 1.
     pub fn flag(&self, r: usize, k: usize) -> bool
         ensures { result ≡ flagged (nth (words_of self.now r) k) }
     {
-        super::flag(self.words, self.rows, r, k)
+        self.cell(r, k) == 1
     }
 
     // How many words row r has.
     pub fn row_len(&self, r: usize) -> usize
         ensures { result ≡ length (words_of self.now r) }
     {
-        super::row_len(self.words, self.rows, r)
+        self.row(r).len()
     }
 
     // How many words the list of row r has, which stands after `header` words.
     pub fn list_len(&self, r: usize, header: usize) -> usize
         ensures { result ≡ length (drop header (words_of self.now r)) }
     {
-        super::list_len(self.words, self.rows, r, header)
+        self.row_len(r).saturating_sub(header)
     }
 
     // The word i of the list of row r, which stands after `header` words.
@@ -73,130 +74,143 @@ impl<'a> Plan<'a> {
         if row.len() < header {
             return 0;
         }
-        super::wide(super::word_in(&row[header..], i))
+        word_in(&row[header..], i) as usize
     }
 
     // The text of row r, whose words are its start and its end in the plan.
     pub fn text_at(&self, r: usize) -> &'a [u8]
         ensures { result.now ≡ text_of self.now.bytes.now (words_of self.now r) }
     {
-        super::text_at(self.bytes, self.words, self.rows, r)
+        let row = self.row(r);
+        let from = word_in(row, 0) as usize;
+        let to = (word_in(row, 1) as usize).min(self.bytes.len());
+        if to < from {
+            return &self.bytes[to..to];
+        }
+        &self.bytes[from..to]
     }
 
     // How many rows table t has.
     pub fn row_count(&self, t: usize) -> usize
         ensures { (result ≡ length (rows_of self.now t)) × (result < 4294967296) }
     {
-        super::row_count(self.tables, t)
+        self.end_row(t).saturating_sub(self.first_row(t))
     }
 
-    // The number of row i of table t; where the table has no such row, a number that no row has.
+    // The number of row i of table t; where the table has no such row, a number that no row has. No Option: such a row reads as no words,
+    // as in the definition, and nobody asks.
     pub fn row_at(&self, t: usize, i: usize) -> usize
         ensures { words_of self.now result ≡ get_or (rows_of self.now t) i [] }
     {
-        super::row_at(self.rows, self.tables, t, i)
+        if self.row_count(t) <= i {
+            return self.rows.len();
+        }
+        self.first_row(t) + i
     }
 
     // The number of the first row of table t, and one more than that of its last.
     pub fn first_row(&self, t: usize) -> usize
         ensures { (result ≡ get_or self.now.tables.now t 0) × (result < 4294967296) }
     {
-        super::bound(self.tables, t)
+        bound(self.tables, t)
     }
 
     pub fn end_row(&self, t: usize) -> usize
         ensures { (result ≡ get_or self.now.tables.now (t + 1) 0) × (result < 4294967296) }
     {
-        super::next_bound(self.tables, t)
+        next_bound(self.tables, t)
     }
 
     // How many variants of type n are indexed, and the row of variant k.
     pub fn variant_count(&self, n: usize) -> usize
         ensures { result ≡ length (variants_in self.now n) }
     {
-        super::row_len(self.index, self.index, n)
+        part(self.index, self.index, n).len()
     }
 
     pub fn variant_row(&self, n: usize, k: usize) -> usize
         ensures { result ≡ nth (variants_in self.now n) k }
     {
-        super::word(self.index, self.index, n, k)
+        word_in(part(self.index, self.index, n), k) as usize
     }
 
-    // The binding of row r.
+    // The binding of row r. This and the accessors of other rows are one line each over the `of` of the type that they give.
     pub fn binding_at(&self, r: usize) -> Binding
         ensures { binding_told result ≡ (binding_of (words_of self.now r)).binding }
     {
-        super::binding::binding_at(self.words, self.rows, r)
+        Binding::of(self.row(r))
     }
 
     // Whether row r is a step, and no arm.
     pub fn is_step(&self, r: usize) -> bool
         ensures { result ≡ ltb (nth (words_of self.now r) 1) 4 }
     {
-        super::block::is_step(self.words, self.rows, r)
+        self.cell(r, 1) < 4
     }
 
     // What row r, a step, does.
     pub fn control_flow_at(&self, r: usize) -> ControlFlow
         ensures { control_flow_told result ≡ control_flow_of (words_of self.now r) }
     {
-        super::block::control_flow_at(self.words, self.rows, r)
+        ControlFlow::of(self.row(r))
     }
 
     // What row r, an arm, asks.
     pub fn constraint_at(&self, r: usize) -> Constraint
         ensures { constraint_told result ≡ constraint_of (words_of self.now r) }
     {
-        super::block::constraint_at(self.words, self.rows, r)
+        Constraint::of(self.row(r))
     }
 
     // The function kind of word k of row r.
     pub fn function_kind_at(&self, r: usize, k: usize) -> FunctionKind
         ensures { function_told result ≡ function_of (nth (words_of self.now r) k) }
     {
-        super::environment::function_kind_at(self.words, self.rows, r, k)
+        FunctionKind::of(self.cell(r, k))
     }
 
     // The type of row r; its fields are the list after five words.
     pub fn type_at(&self, r: usize) -> TypeData
         ensures { type_told result (drop 5 (words_of self.now r)) ≡ type_of (words_of self.now r) }
     {
-        super::environment::type_data_at(self.words, self.rows, r)
+        TypeData::of(self.row(r))
     }
 
     // The variant of row r; its fields are the list after three words.
     pub fn variant_at(&self, r: usize) -> Variant
         ensures { variant_told result (drop 3 (words_of self.now r)) ≡ variant_of (words_of self.now r) }
     {
-        super::environment::variant_data_at(self.words, self.rows, r)
+        Variant::of(self.row(r))
     }
 
     // The term of row r; the types of its arguments are the list after eight words.
     pub fn term_at(&self, r: usize) -> Term
         ensures { term_told result (drop 8 (words_of self.now r)) ≡ term_of (words_of self.now r) }
     {
-        super::environment::term_data_at(self.words, self.rows, r)
+        Term::of(self.row(r))
     }
 
     // How many fields a shape has with the list of row r, which stands after `header` words.
     pub fn field_count(&self, r: usize, header: usize, s: Shape) -> usize
         ensures { result ≡ field_count (fields_told s (drop header (words_of self.now r))) }
     {
-        super::environment::field_count(self.words, self.rows, r, header, s)
+        s.field_count(self.list_len(r, header))
     }
 
     // How many fields the type of row r has: none if it is no struct.
     pub fn type_field_count(&self, r: usize) -> usize
         ensures { result ≡ field_count (fields_of (type_of (words_of self.now r))) }
     {
-        super::environment::type_field_count(self.words, self.rows, r)
+        match self.type_at(r) {
+            TypeData::Struct(_, shape) => self.field_count(r, 5, shape),
+            _ => 0,
+        }
     }
 
     // How many fields the variant of row r has.
     pub fn variant_field_count(&self, r: usize) -> usize
         ensures { result ≡ field_count (variant_of (words_of self.now r)).fields }
     {
-        super::environment::variant_field_count(self.words, self.rows, r)
+        self.field_count(r, 3, self.variant_at(r).shape)
     }
 }

@@ -1,10 +1,10 @@
 // Types and terms: `Type` and `Term` of sema.rs.
-ghost use Rattle.std.specs.Prelude.{◌≡◌, ℕ, ◌-◌, List, drop};
+ghost use Rattle.std.specs.Prelude.{◌≡◌, ℕ, List, length, drop};
 ghost use Rattle.plan.specs.Lookup.{fields_of, field_count};
-ghost use Rattle.rows.specs.View.{nth, function_of, shape_of, type_of, variant_of, term_of};
-ghost use Rattle.layout.specs.View.{cut};
+ghost use Rattle.rows.specs.View.{function_of, shape_of, type_of, variant_of, term_of};
 ghost use Rattle.view.specs.Told.{function_told, fields_told, type_told, variant_told, term_told};
 
+use super::word_in;
 use literal::builtin_type::BuiltinType;
 
 // A term's constructor or extractor.
@@ -60,131 +60,97 @@ pub struct Term {
     pub infallible: bool,
 }
 
-// The function kind that a word says.
-fn function_made(k: usize) -> FunctionKind
-    ensures { function_told result ≡ function_of k }
-{
-    if k == 0 {
-        return FunctionKind::Absent;
-    }
-    if k == 1 {
-        return FunctionKind::Internal;
-    }
-    FunctionKind::External { name: k - 2 }
-}
-
-// The function kind of word k of row r.
-pub fn function_kind_at(words: &[u32], rows: &[u32], r: usize, k: usize) -> FunctionKind
-    ensures { function_told result ≡ function_of (nth (cut words.now rows.now r) k) }
-{
-    function_made(super::word(words, rows, r, k))
-}
-
-// The shape that a number says.
-pub fn shape_made(k: usize) -> Shape
-    ensures { (ws : List ℕ) → fields_told result ws ≡ shape_of k ws }
-{
-    if k == 0 {
-        return Shape::Unit;
-    }
-    if k == 1 {
-        return Shape::Named;
-    }
-    Shape::Tuple
-}
-
-// The type of row r.
-pub fn type_data_at(words: &[u32], rows: &[u32], r: usize) -> TypeData
-    ensures { type_told result (drop 5 (cut words.now rows.now r)) ≡ type_of (cut words.now rows.now r) }
-{
-    let k = super::word(words, rows, r, 0);
-    let name = super::word(words, rows, r, 1);
-    if k == 0 {
-        return TypeData::Primitive(name);
-    }
-    let is_extern = super::flag(words, rows, r, 2);
-    let is_nodebug = super::flag(words, rows, r, 3);
-    let pos = super::word(words, rows, r, 4);
-    let d = Declared {
-        name: name,
-        is_extern: is_extern,
-        is_nodebug: is_nodebug,
-        pos: pos,
-    };
-    if k == 1 {
-        return TypeData::Enum(d);
-    }
-    let s = shape_made(k - 2);
-    TypeData::Struct(d, s)
-}
-
-// The variant of row r.
-pub fn variant_data_at(words: &[u32], rows: &[u32], r: usize) -> Variant
-    ensures { variant_told result (drop 3 (cut words.now rows.now r)) ≡ variant_of (cut words.now rows.now r) }
-{
-    let ty = super::word(words, rows, r, 0);
-    let name = super::word(words, rows, r, 1);
-    let shape = shape_made(super::word(words, rows, r, 2));
-    Variant {
-        ty: ty,
-        name: name,
-        shape: shape,
+impl FunctionKind {
+    // The function kind that a word says: the reader's 0 and 1, or two more than a name's number.
+    pub fn of(word: u32) -> FunctionKind
+        ensures { function_told result ≡ function_of word }
+    {
+        match word {
+            0 => FunctionKind::Absent,
+            1 => FunctionKind::Internal,
+            _ => FunctionKind::External {
+                name: (word - 2) as usize,
+            },
+        }
     }
 }
 
-// The term of row r.
-pub fn term_data_at(words: &[u32], rows: &[u32], r: usize) -> Term
-    ensures { term_told result (drop 8 (cut words.now rows.now r)) ≡ term_of (cut words.now rows.now r) }
-{
-    let name = super::word(words, rows, r, 0);
-    let pos = super::word(words, rows, r, 1);
-    let ret_ty = super::word(words, rows, r, 2);
-    let multi = super::flag(words, rows, r, 3);
-    let partial = super::flag(words, rows, r, 4);
-    let ctor = function_kind_at(words, rows, r, 5);
-    let xtor = function_kind_at(words, rows, r, 6);
-    let infallible = super::flag(words, rows, r, 7);
-    Term {
-        name: name,
-        pos: pos,
-        ret_ty: ret_ty,
-        multi: multi,
-        partial: partial,
-        ctor: ctor,
-        xtor: xtor,
-        infallible: infallible,
+impl Shape {
+    // The shape that a number says.
+    pub fn of(k: u32) -> Shape
+        ensures { (ws : List ℕ) → fields_told result ws ≡ shape_of k ws }
+    {
+        match k {
+            0 => Shape::Unit,
+            1 => Shape::Named,
+            _ => Shape::Tuple,
+        }
+    }
+
+    // How many fields there are with a list of n words.
+    pub fn field_count(self, n: usize) -> usize
+        ensures { (ws : List ℕ) → n ≡ length ws → result ≡ field_count (fields_told self ws) }
+    {
+        match self {
+            Shape::Unit => 0,
+            Shape::Named => n / 2,
+            Shape::Tuple => n,
+        }
     }
 }
 
-// How many fields a shape has with the list of row r, which stands after `header` words.
-pub fn field_count(words: &[u32], rows: &[u32], r: usize, header: usize, s: Shape) -> usize
-    ensures { result ≡ field_count (fields_told s (drop header (cut words.now rows.now r))) }
-{
-    let n = super::list_len(words, rows, r, header);
-    match s {
-        Shape::Unit => 0,
-        Shape::Named => n / 2,
-        Shape::Tuple => n,
+impl TypeData {
+    // The type of a row's words; its fields are the list after five words.
+    pub fn of(row: &[u32]) -> TypeData
+        ensures { type_told result (drop 5 row.now) ≡ type_of row.now }
+    {
+        let kind = word_in(row, 0);
+        let name = word_in(row, 1) as usize;
+        if kind == 0 {
+            return TypeData::Primitive(name);
+        }
+        let declared = Declared {
+            name,
+            is_extern: word_in(row, 2) == 1,
+            is_nodebug: word_in(row, 3) == 1,
+            pos: word_in(row, 4) as usize,
+        };
+        if kind == 1 {
+            return TypeData::Enum(declared);
+        }
+        TypeData::Struct(declared, Shape::of(kind - 2))
     }
 }
 
-// How many fields the type of row r has: none if it is no struct.
-pub fn type_field_count(words: &[u32], rows: &[u32], r: usize) -> usize
-    ensures { result ≡ field_count (fields_of (type_of (cut words.now rows.now r))) }
-{
-    let t = type_data_at(words, rows, r);
-    match t {
-        TypeData::Builtin(_) => 0,
-        TypeData::Primitive(_) => 0,
-        TypeData::Enum(_) => 0,
-        TypeData::Struct(_, s) => field_count(words, rows, r, 5, s),
+impl Variant {
+    // The variant of a row's words; its fields are the list after three words.
+    #[tactic(auto, unfolding(rows::specs::View::variant_of))]
+    pub fn of(row: &[u32]) -> Variant
+        ensures { variant_told result (drop 3 row.now) ≡ variant_of row.now }
+    {
+        Variant {
+            ty: word_in(row, 0) as usize,
+            name: word_in(row, 1) as usize,
+            shape: Shape::of(word_in(row, 2)),
+        }
     }
 }
 
-// How many fields the variant of row r has.
-pub fn variant_field_count(words: &[u32], rows: &[u32], r: usize) -> usize
-    ensures { result ≡ field_count (variant_of (cut words.now rows.now r)).fields }
-{
-    let s = shape_made(super::word(words, rows, r, 2));
-    field_count(words, rows, r, 3, s)
+impl Term {
+    // The term of a row's words; the types of its arguments are the list after eight words.
+    #[tactic(auto, unfolding(rows::specs::View::term_of))]
+    pub fn of(row: &[u32]) -> Term
+        ensures { term_told result (drop 8 row.now) ≡ term_of row.now }
+    {
+        Term {
+            name: word_in(row, 0) as usize,
+            pos: word_in(row, 1) as usize,
+            ret_ty: word_in(row, 2) as usize,
+            multi: word_in(row, 3) == 1,
+            partial: word_in(row, 4) == 1,
+            ctor: FunctionKind::of(word_in(row, 5)),
+            xtor: FunctionKind::of(word_in(row, 6)),
+            infallible: word_in(row, 7) == 1,
+        }
+    }
 }

@@ -11,19 +11,13 @@ use Rattle.std.specs.List.{count_by}
 use Rattle.std.proofs.lemmas.List.Sums.{sum_by-cons}
 use Rattle.plan.specs.Row.{Row, step, arm, level}
 use Rattle.rows.specs.View.{nth, wide_at, patterns_in, block_of, step_made, arm_made}
+use Rattle.view.specs.BlockRows.{level_is}
 use Rattle.view.specs.Buffers.{words_of}
 use Rattle.view.specs.declared.buffers.Plan.{Plan}
 use Rattle.view.proofs.Laws.{cuts_next, cuts_none}
 use Rattle.weights.specs.Between.{rows_between}
 use Rattle.codegen.specs.Block.{arm_count, step_weight, block_weight}
 use Rattle.splitting.specs.Demand3.{rows_below}
-
-pub level_is : (ws : List ℕ) → level (block_of ws) ≡ nth ws 0
-unfolding block_of level
-level_is ws = by_test (ltb (nth ws 1) 4) where
-  by_test : (b : Bool) → level (cond b (step (nth ws 0) (step_made (nth ws 1) (nth ws 2) (wide_at ws 3)) (drop 7 ws)) (arm (nth ws 0) (arm_made (nth ws 1 - 4) (nth ws 2) (wide_at ws 3)) (patterns_in (drop 7 ws)))) ≡ nth ws 0
-  by_test true = refl
-  by_test false = refl
 
 pub is_step : Row → Bool
 is_step (step l c bs) = true

@@ -1,6 +1,5 @@
-use borrow.Author.Rules.{rules}
 use Rattle.consts.proofs.Laws.{emits_lit}
 use Rattle.consts.proofs.emit_int.Goals as goal
 
 pub returns : goal.returns
-returns c = λ env plan index d q h. emits_lit c.int_type-int.result c.args.high c.args.low (c.int_type-int.ensures env plan index h) c.is_odd-is_odd.ensures (search rules) c.count-odd.ensures
+returns c = λ p d q. rw (← c.int_type-int.ensures p) (emits_lit c.args.val c.emit_int.ensures (rw (← c.is_odd-is_odd.ensures) c.count_odd.ensures))

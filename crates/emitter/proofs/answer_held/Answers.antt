@@ -1,4 +1,4 @@
-use Rattle.std.specs.Prelude.{◌≡◌, refl}
+use Rattle.std.specs.Prelude.{refl}
 use Rattle.std.proofs.Common.{arith}
 use Rattle.emitter.specs.Held.{form_text, form_count, answer_in}
 use Rattle.emitter.specs.EntryLaws.{form_le, answers_none, answers_copied, answers_text}

@@ -1,7 +1,6 @@
-use Rattle.std.specs.Prelude.{◌≡◌, ℕ, List, Err, Ok, ◌+◌}
+use Rattle.std.specs.Prelude.{◌≡◌, Err}
 use borrow.Author.Rules.{rules}
-use lib.ListN.{length, take}
-use Rattle.emitter.specs.Held.{Held}
+use lib.ListN.{length}
 use Rattle.emitter.specs.Answered.{Emitted}
 use Rattle.emitter.specs.EntryLaws.{answers_refused, told_tables, answers_held}
 use Rattle.emitter.proofs.answer_read.Goals as goal

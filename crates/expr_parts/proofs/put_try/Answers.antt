@@ -1,11 +1,13 @@
-use mathlib.Core.Path.{sym, ◌∙◌}
-use mathlib.Core.Bool.{true, false}
-use Rattle.emits.specs.Emits.{emits_ask}
-use Rattle.expr_parts.proofs.Laws.{emits_fix}
+use Rattle.std.proofs.Common.{refl, sym, ◌∙◌, true, false}
+use Rattle.codegen.specs.Piece.{odd_piece, odd_pieces}
+use Rattle.emits.specs.Sinks.{shows_none, shows_fix}
+use Rattle.emits.specs.Runs.{emits_say, emits_ask}
 use Rattle.expr_parts.proofs.put_try.Goals as goal
 
 pub returns-then-contains : goal.returns-then-contains
-returns-then-contains c = λ env d n. emits_ask true (sym c.contains.ensures ∙ c.if-contains.true) (emits_fix c.put_bytes.ensures)
+unfolding odd_pieces odd_piece
+returns-then-contains c = λ env d. emits_ask true (sym c.contains.ensures ∙ c.if-contains.true) (emits_say refl (shows_fix c.put_bytes.ensures shows_none))
 
-pub returns : goal.returns
-returns c = λ env d n. emits_ask false (sym c.contains.ensures ∙ c.if-contains.false) (emits_fix c.put_bytes-2.ensures)
+pub returns-else-contains : goal.returns-else-contains
+unfolding odd_pieces odd_piece
+returns-else-contains c = λ env d. emits_ask false (sym c.contains.ensures ∙ c.if-contains.false) (emits_say refl (shows_fix c.put_bytes-else-contains.ensures shows_none))

@@ -1,5 +1,5 @@
-use Rattle.expr_parts.proofs.Laws.{emits_variant}
+use Rattle.emits.specs.Sinks.{shows_none, shows_fix, shows_sym, ◌⟫ₛ◌}
 use Rattle.expr_parts.proofs.variant_name.Goals as goal
 
 pub returns : goal.returns
-returns c = λ env index d q h. emits_variant (c.put_type-typed.ensures env index h) c.put_bytes-at.ensures (c.put_sym-at.ensures env index h)
+returns c = λ d. c.type_name.ensures d ⟫ₛ shows_fix c.put_bytes.ensures (shows_sym c.put_text.ensures shows_none)

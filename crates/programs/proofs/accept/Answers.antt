@@ -6,4 +6,4 @@ pub returns-in-None : goal.returns-in-None
 returns-in-None c = c.put_accepted.ensures (omega arith) ∙ none_refused (rw c.in-None.is at c.refused.ensures)
 
 pub returns-in-Some : goal.returns-in-Some
-returns-in-Some c = c.put_refusal.ensures (omega arith) ∙ rw c.number.ensures (one_refused c.in-Some.refusal (rw c.in-Some.is at c.refused.ensures))
+returns-in-Some c = c.put_refusal.ensures (omega arith) ∙ one_refused c.in-Some.refusal (rw c.in-Some.is at c.refused.ensures)

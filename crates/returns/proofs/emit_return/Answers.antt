@@ -1,11 +1,15 @@
-use mathlib.Core.Path.{◌∙◌}
+use Rattle.std.proofs.Common.{refl, ap}
+use Rattle.codegen.specs.Block.{returning}
 use Rattle.emits.specs.Marks.{set_of}
-use Rattle.step_parts.specs.Leads.{lines_words}
-use Rattle.returns.proofs.ReturnLaws.{lines_return}
+use Rattle.body.specs.Lines.{◌⟫ᵢ◌, lines_words}
 use Rattle.returns.proofs.emit_return.Goals as goal
 
-pub shape_of-out : goal.shape_of-out
-shape_of-out c = c.put_limit-at.auto.out ∙ c.put_byte-at.auto.out ∙ c.return_line-w.auto.out ∙ c.put_indent-at.auto.out ∙ c.put_log-at.auto.out ∙ c.put_rule-at.auto.out
-
 pub returns : goal.returns
-returns c = λ env y i fs f l k n d h g. lines_return y (set_of c.args.bound.now) c.args.r c.args.p (c.put_rule-at.ensures env c.args.index.now i fs _ _ f.holds d) (c.put_log-at.ensures env c.args.index.now y i fs _ _ f.holds l n d) (lines_words d c.put_indent-at.ensures (c.return_line-w.ensures env y f k g) c.put_byte-at.ensures) (c.put_limit-at.ensures env y i fs _ _ k d h)
+unfolding returning
+returns c = record {
+  lines = λ g f i fs s.
+      c.put_rule.ensures i fs _ s ⟫ᵢ (c.put_log.ensures i fs _ s ⟫ᵢ (lines_words s.depth c.put_indent.ensures (c.return_line.ensures.emits f g) c.put_byte.ensures ⟫ᵢ c.put_limit.ensures _ i fs _ s));
+  frame = λ r. refl;
+  bound = λ r. ap set_of c.return_line.ensures.same.bound;
+  nesting = c.return_line.ensures.same.nesting;
+}

@@ -1,12 +1,10 @@
-use mathlib.Core.Path.{◌∙◌}
-use Rattle.returns.proofs.ReturnLaws.{lines_log, lines_no_log}
+use Rattle.std.proofs.Common.{refl}
+use Rattle.codegen.specs.Piece.{odd_piece, odd_pieces}
+use Rattle.codegen.specs.Block.{log_lines}
+use Rattle.emits.specs.Sinks.{shows_none, shows_fix, shows_quoted_sym, shows_quoted_pos}
+use Rattle.returns.proofs.ReturnLaws.{lines_pieces}
 use Rattle.returns.proofs.put_log.Goals as goal
 
-pub shape_of-out-then-log : goal.shape_of-out-then-log
-shape_of-out-then-log c = c.put_byte.auto.out ∙ c.put_bytes-at-then-log-2.auto.out ∙ c.put_quoted_pos-at.auto.out ∙ c.put_bytes-at-then-log.auto.out ∙ c.put_quoted_sym-at.auto.out ∙ c.put_bytes-at.auto.out ∙ c.put_indent-at.auto.out
-
-pub returns-then-log : goal.returns-then-log
-returns-then-log c = λ env index y i fs n q h g l d. lines_log y c.args.p c.args.term_name (g ∙ c.if-log.true) l d c.put_indent-at.ensures c.put_bytes-at.ensures (c.put_quoted_sym-at.ensures env index h) c.put_bytes-at-then-log.ensures (c.put_quoted_pos-at.ensures env index h) c.put_bytes-at-then-log-2.ensures c.put_byte.ensures
-
-pub returns : goal.returns
-returns c = λ env index y i fs n q h g l d. lines_no_log y c.args.p (g ∙ c.if-log.false)
+pub returns-then-body : goal.returns-then-body
+unfolding log_lines odd_pieces odd_piece
+returns-then-body c = λ i fs q s. rw c.if-body.true (lines_pieces s refl c.put_indent.ensures (shows_fix c.put_bytes.ensures (shows_quoted_sym c.put_quoted_text.ensures (shows_fix c.put_bytes-then-body.ensures (shows_quoted_pos c.put_quoted_text-then-body.ensures (shows_fix c.put_bytes-then-body-2.ensures shows_none))))) c.put_byte.ensures)

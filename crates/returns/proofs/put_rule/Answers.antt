@@ -1,5 +1,9 @@
-use Rattle.returns.proofs.ReturnLaws.{lines_rule}
+use Rattle.std.proofs.Common.{refl}
+use Rattle.codegen.specs.Piece.{odd_piece, odd_pieces}
+use Rattle.emits.specs.Sinks.{shows_none, shows_fix, shows_pos}
+use Rattle.returns.proofs.ReturnLaws.{lines_pieces}
 use Rattle.returns.proofs.put_rule.Goals as goal
 
 pub returns : goal.returns
-returns c = λ env index i fs n q h d. lines_rule c.args.p d c.put_indent-at.ensures c.put_bytes-at.ensures (c.put_pos-at.ensures env index h) c.put_bytes-at-2.ensures c.put_byte.ensures
+unfolding odd_pieces odd_piece
+returns c = λ i fs q s. lines_pieces s refl c.put_indent.ensures (shows_fix c.put_bytes.ensures (shows_pos c.put_text.ensures (shows_fix c.put_bytes-2.ensures shows_none))) c.put_byte.ensures

@@ -1,11 +1,13 @@
-use mathlib.Core.Path.{refl, sym, ap}
-use Rattle.emits.specs.Marks.{set_of}
-use Rattle.step_parts.proofs.HeadLaws.{emits_return}
-use mathlib.Core.List.{[], ◌∷◌}
-use Rattle.codegen.specs.Piece.{fix}
-use Rattle.codegen.specs.ReturnKind.{ReturnKind, by_return_kind}
-use Rattle.step_parts.proofs.BufferLaws.{shows_same}
+use Rattle.std.proofs.Common.{refl, sym}
+use Rattle.codegen.specs.Block.{return_line}
+use Rattle.emits.specs.Runs.{◌⟫◌}
+use Rattle.expr_parts.proofs.Laws.{emits_cloned}
+use Rattle.sema.specs.Signature.{return_kind_told}
+use Rattle.returns.proofs.ReturnLaws.{emits_by_kind}
 use Rattle.returns.proofs.return_line.Goals as goal
 
-pub returns : goal.returns
-returns c = λ env y f k g. emits_return y f.c_env f.c_bindings (set_of c.args.bound.now) c.args.r (shows_same (ap (λ (x : ReturnKind). by_return_kind x (fix "returns.extend(Some(" refl) (fix "return " refl) (fix "return " refl) ∷ []) (sym k)) (c.put_return-at.ensures env c.args.depth)) (c.emit_expr-w.ensures env f.holds f.lower g) (c.put_cloned-at.ensures env c.args.depth _) (shows_same (ap (λ (x : ReturnKind). by_return_kind x (fix "));" refl) (fix ";" refl) (fix ";" refl) ∷ []) (sym k)) (c.put_returned-at.ensures env c.args.depth))
+pub returns-clause-emits : goal.returns-clause-emits
+unfolding return_line
+returns-clause-emits c = λ f g.
+    let k = return_kind_told c.args.body.now.ret_kind in
+    emits_by_kind k "returns.extend(Some(" "return " refl refl c.put_by_kind.ensures ⟫ c.emit_expr.ensures f.indexed f.lower g ⟫ emits_cloned c.contains.result (sym c.contains.ensures) (c.put_clone.ensures _ _) ⟫ emits_by_kind k "));" ";" refl refl c.put_by_kind-2.ensures

@@ -4,7 +4,8 @@ use lib.Dec.{eqb}
 use Rattle.std.proofs.Common.{rules}
 use Rattle.plan.specs.Row.{level}
 use Rattle.view.specs.Buffers.{words_of}
-use Rattle.weights.proofs.Laws.{level_is, arms_counted}
+use Rattle.view.specs.BlockRows.{level_is}
+use Rattle.weights.proofs.Laws.{arms_counted}
 use Rattle.weights.proofs.arm_count.Goals as goal
 
 pub returns : goal.returns

@@ -4,7 +4,8 @@ use mathlib.Core.Bool.{true}
 use native.Mathlib.Omega.{arith}
 use Rattle.std.proofs.Common.{rules}
 use Rattle.view.specs.Buffers.{words_of}
-use Rattle.weights.proofs.Laws.{level_is, none_below, all_counted}
+use Rattle.view.specs.BlockRows.{level_is}
+use Rattle.weights.proofs.Laws.{none_below, all_counted}
 use Rattle.weights.proofs.rows_below.Goals as goal
 
 pub returns-then-end-r : goal.returns-then-end-r

@@ -1,9 +1,9 @@
-use mathlib.Core.Path.{sym, ◌∙◌}
-use Rattle.blocks.specs.Row.{step_binds, arm_binds}
+use Rattle.std.proofs.Common.{sym, ◌∙◌}
+use Rattle.blocks.specs.Row.{step_lets, arm_lets}
 use Rattle.blocks.proofs.row.emit_bind_order.Goals as goal
 
 pub returns-then-is_step : goal.returns-then-is_step
-returns-then-is_step c = step_binds c.args.words.now c.args.rows.now c.args.r c.requires (sym c.is_step.ensures ∙ c.if-is_step.true) c.emit_lets.ensures.0 c.emit_lets.ensures.1
+returns-then-is_step c = step_lets c.args.body.now c.args.r c.requires (sym c.is_step.ensures ∙ c.if-is_step.true) c.emit_lets.ensures
 
-pub returns : goal.returns
-returns c = arm_binds c.args.words.now c.args.rows.now c.args.r (sym c.is_step.ensures ∙ c.if-is_step.false)
+pub returns-else-is_step : goal.returns-else-is_step
+returns-else-is_step c = arm_lets c.args.body.now c.args.r (sym c.is_step.ensures ∙ c.if-is_step.false)

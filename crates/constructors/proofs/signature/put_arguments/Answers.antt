@@ -1,14 +1,12 @@
-use Prim.Native.Nat.{◌-◌}
-use mathlib.Core.Path.{refl, ◌∙◌}
 use native.Mathlib.Omega.{arith}
 use Rattle.constructors.specs.Lines.{arguments_start, arguments_more, arguments_done}
 use Rattle.constructors.proofs.signature.put_arguments.Goals as goal
 
 pub loop-i-init : goal.loop-i-init
-loop-i-init c = (refl, λ env index h. arguments_start)
+loop-i-init c = arguments_start
 
 pub loop-i-preserved : goal.loop-i-preserved
-loop-i-preserved c = (c.put_argument-next.auto.out ∙ c.loop-i.invariant.0, λ env index h. arguments_more (c.loop-i.invariant.1 env index h) c.param_ty-ty.result (omega (arith, c.param_count-count.ensures env c.args.plan.now index h)) (c.param_ty-ty.ensures env c.args.plan.now index h) (c.put_argument-next.ensures env index h))
+loop-i-preserved c = arguments_more c.loop-i.invariant c.param_ty.result.0 (omega (arith, c.param_count-i-end.ensures)) c.param_ty.ensures c.put_argument.ensures
 
 pub returns : goal.returns
-returns c = λ env index h. arguments_done (c.loop-i.invariant.1 env index h) (omega (arith, c.param_count-count.ensures env c.args.plan.now index h))
+returns c = arguments_done c.loop-i.invariant (omega (arith, c.param_count-i-end.ensures))

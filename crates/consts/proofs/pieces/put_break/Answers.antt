@@ -1,16 +1,14 @@
-use native.Mathlib.Omega.{arith}
-use Rattle.text.specs.SinkLaws.{◌then◌, puts_past, length_spaces}
+use Rattle.std.specs.Prelude.{◌≡◌, ◌+◌}
+use Rattle.std.proofs.Common.{arith, rules}
+use Rattle.text.specs.SinkLaws.{length_spaces}
+use Rattle.text.specs.Writes.{writes_over, writes_then}
 use Rattle.codegen.specs.Piece.{indent}
 use Rattle.consts.proofs.pieces.put_break.Goals as goal
 
-pub returns-then-depth-gt4611686018427387903 : goal.returns-then-depth-gt4611686018427387903
+pub returns-in-Some : goal.returns-in-Some
 unfolding indent
-returns-then-depth-gt4611686018427387903 c = puts_past (rw length_spaces (omega arith)) (omega arith)
+returns-in-Some c = let sum : c.in-Some.depth ≡ c.args.depth + c.args.more = search rules in writes_then c.put_byte.ensures (rw sum at c.put_indent.ensures)
 
-pub returns-then-more-gt4611686018427387903 : goal.returns-then-more-gt4611686018427387903
+pub returns-in-None : goal.returns-in-None
 unfolding indent
-returns-then-more-gt4611686018427387903 c = puts_past (rw length_spaces (omega arith)) (omega arith)
-
-pub returns : goal.returns
-unfolding indent
-returns c = c.put_byte-at.ensures then c.put_indent.ensures
+returns-in-None c = writes_then c.put_byte.ensures (writes_over (rw length_spaces (grind arith)))

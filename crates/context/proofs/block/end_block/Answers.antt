@@ -1,6 +1,10 @@
 use native.Mathlib.Numerals.{add-one}
-use Rattle.context.specs.Puts.{block_puts}
+use mathlib.Core.List.{append_assoc}
+use Rattle.text.specs.Writes.{writes_then}
+use Rattle.context.specs.Closing.{line_of, brace_text, block_text}
 use Rattle.context.proofs.block.end_block.Goals as goal
 
 pub returns : goal.returns
-returns c = block_puts _ _ _ _ (rw add-one at c.end_closure-at.ensures) (rw add-one at c.end_match-at.ensures) c.end_block_without_newline-at.ensures c.put_byte.ensures
+unfolding block_text brace_text line_of
+returns c =
+    writes_then (rw add-one at c.end_closure.ensures) (writes_then (rw add-one at c.end_match.ensures) (rw append_assoc at (writes_then c.end_block_without_newline.ensures c.put_byte.ensures)))

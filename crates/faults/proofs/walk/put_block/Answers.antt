@@ -13,13 +13,13 @@ pub returns : goal.returns
 returns c = walking_past c.rows.invariant c.rows-test.false
 
 pub rows-preserved-then-level-f : goal.rows-preserved-then-level-f
-rows-preserved-then-level-f c = walking_close c.rows.invariant c.if-last-r.false (rw (← c.cell.ensures, ← c.wide-level.ensures) c.if-level-f.true) (c.raise.ensures c.rows.invariant.ready.latest)
+rows-preserved-then-level-f c = walking_close c.rows.invariant c.if-last-r.false (rw (← c.cell-level.ensures) c.if-level-f.true) (c.raise.ensures c.rows.invariant.ready.latest)
 
 pub returns-then-d-ge64 : goal.returns-then-d-ge64
-returns-then-d-ge64 c = walking_full c.rows.invariant c.if-last-r.false c.if-d-ge64.true (omega (arith, c.cell.ensures, c.wide-level.ensures, c.if-level-f.false))
+returns-then-d-ge64 c = walking_full c.rows.invariant c.if-last-r.false c.if-d-ge64.true (omega (arith, c.cell-level.ensures, c.if-level-f.false))
 
 pub returns-then-scopes-top : goal.returns-then-scopes-top
-returns-then-scopes-top c = walking_crowded c.rows.invariant c.if-last-r.false (omega (arith, c.rows.auto.scopes, c.if-scopes-top.true)) (omega (arith, c.cell.ensures, c.wide-level.ensures, c.if-level-f.false))
+returns-then-scopes-top c = walking_crowded c.rows.invariant c.if-last-r.false (omega (arith, c.rows.auto.scopes, c.if-scopes-top.true)) (omega (arith, c.cell-level.ensures, c.if-level-f.false))
 
 pub rows-preserved : goal.rows-preserved
-rows-preserved c = walking_row c.rows.invariant _ c.if-last-r.false (omega (arith, c.if-d-ge64.false)) (omega (arith, c.if-scopes-top.false)) (omega (arith, c.cell.ensures, c.wide-level.ensures, c.if-level-f.false)) c.judge_row-s.ensures c.put_row.ensures (rw (← c.cell.ensures, ← c.wide-level.ensures) refl) c.purpose_of.ensures c.frame_count-d.ensures.0
+rows-preserved c = walking_row c.rows.invariant _ c.if-last-r.false (omega (arith, c.if-d-ge64.false)) (omega (arith, c.if-scopes-top.false)) (omega (arith, c.cell-level.ensures, c.if-level-f.false)) c.judge_row-s.ensures c.put_row.ensures (rw (← c.cell-level.ensures) refl) c.purpose_of.ensures c.frame_count-d.ensures.0

@@ -1,19 +1,23 @@
-use Prim.Native.Nat.{◌-◌}
-use mathlib.Core.Path.{refl, sym, ◌∙◌}
-use native.Mathlib.Omega.{arith}
-use Rattle.layout.specs.View.{cut}
+use Rattle.std.proofs.Common.{length, drop, sym, ◌∙◌, arith}
+use Rattle.std.proofs.lemmas.Iterator.{YieldsList-from_slice}
+use Rattle.std.proofs.lemmas.Iterator.Adapters.{YieldsList-from_skip}
+use Rattle.std.proofs.lemmas.Iterator.Consumers.{YieldsList-turn, YieldsList-end}
+use Rattle.std.proofs.lemmas.List.{get_or_default, length_push}
+use Rattle.view.specs.Buffers.{words_of}
 use Rattle.emits.specs.Marks.{set_of}
-use Rattle.pattern.proofs.Laws.{bind_word, bind_end}
+use Rattle.row_frames.specs.Patterns.{bind_word, bind_end}
 use Rattle.pattern.proofs.bind.bind_all.Goals as goal
 
-pub loop-k-init : goal.loop-k-init
-loop-k-init c = (refl, refl)
-
-pub loop-k-preserved : goal.loop-k-preserved
-loop-k-preserved c = (c.bind.auto.bound ∙ c.loop-k.invariant.0, bind_word (cut c.args.words.now c.args.rows.now c.args.r) c.loop-k.k (set_of c.loop-k.bound) _ (omega (arith, c.row_len-end.ensures)) (rw (← c.word.ensures) c.bind.ensures) ∙ c.loop-k.invariant.1)
-
-pub shape_of-bound : goal.shape_of-bound
-shape_of-bound c = c.loop-k.invariant.0
+pub loop-word-preserved : goal.loop-word-preserved
+loop-word-preserved c =
+    let ws = words_of c.args.plan.now c.args.r in
+    let k = length c.loop-word.yielded in
+    let t = YieldsList-turn (YieldsList-from_skip 7 (YieldsList-from_slice ws cc) cc) c.loop-word.yielded _ c.loop-word.yielded_by _ _ c.in-Some.word c.in-Some.is c.next.ensures.steps in
+    let word = t.1 ∙ get_or_default (drop 7 ws) k _ 0 t.0 in
+    rw (length_push c.loop-word.yielded c.in-Some.word) (bind_word (drop 7 ws) k (set_of c.loop-word.bound) _ t.0 (rw (← word, ← c.pattern_of.ensures) c.bind.ensures) ∙ c.loop-word.invariant)
 
 pub returns : goal.returns
-returns c = sym (bind_end (cut c.args.words.now c.args.rows.now c.args.r) c.loop-k.k (set_of c.loop-k.bound) (omega (arith, c.row_len-end.ensures))) ∙ c.loop-k.invariant.1
+returns c =
+    let ws = words_of c.args.plan.now c.args.r in
+    let t = YieldsList-end (YieldsList-from_skip 7 (YieldsList-from_slice ws cc) cc) c.loop-word.yielded _ c.loop-word.yielded_by _ _ c.in-None.is c.next.ensures.steps in
+    sym (bind_end (drop 7 ws) (length c.loop-word.yielded) (set_of c.loop-word.bound) (omega (arith, t.1))) ∙ c.loop-word.invariant

@@ -1,9 +1,13 @@
-use Prim.Native.Nat.{◌-◌}
-use mathlib.Core.Path.{sym, ◌∙◌}
-use native.Mathlib.Omega.{arith}
-use Rattle.layout.specs.View.{cut}
-use Rattle.pattern.proofs.Laws.{skipped_here, skipped_later, skipped_end}
+use Rattle.std.proofs.Common.{eqb, ◌∙◌, rules}
+use Rattle.std.proofs.lemmas.Iterator.{YieldsList-from_slice}
+use Rattle.std.proofs.lemmas.Iterator.Adapters.{YieldsList-from_skip}
+use Rattle.std.proofs.lemmas.Iterator.Search.{any_from_yields_List}
+use Rattle.lists.specs.Items.{unbound}
+use Rattle.view.specs.Buffers.{words_of}
+use Rattle.pattern.proofs.Laws.{any_skipped}
 use Rattle.pattern.proofs.bind.skipped_some.Goals as goal
 
 pub returns : goal.returns
-returns c = sym (skipped_end (cut c.args.words.now c.args.rows.now c.args.r) c.loop-k.k (omega (arith, c.row_len-end.ensures))) ∙ c.loop-k.invariant
+returns c =
+    any_from_yields_List (λ b. eqb b unbound) _ _ _ c.any.ensures.ran (YieldsList-from_skip 7 (YieldsList-from_slice (words_of c.args.plan.now c.args.r) cc) cc) (λ x b q k. search rules)
+    ∙ any_skipped _

@@ -1,8 +1,10 @@
-use lib.ListN.{drop}
-use Rattle.rows.specs.View.{patterns_in}
-use Rattle.layout.specs.View.{cut}
-use Rattle.pattern.proofs.Laws.{emits_some}
+use Rattle.std.proofs.Common.{refl}
+use Rattle.codegen.specs.Piece.{odd_piece, odd_pieces}
+use Rattle.codegen.specs.Pattern.{emit_constraint}
+use Rattle.emits.specs.Sinks.{shows_none, shows_fix}
+use Rattle.emits.specs.Runs.{emits_say, ◌⟫◌}
 use Rattle.pattern.proofs.constraint.emit_some.Goals as goal
 
 pub returns : goal.returns
-returns c = λ env d m. emits_some c.args.q (patterns_in (drop 7 (cut c.args.words.now c.args.rows.now c.args.r))) c.put_bytes-at.ensures (c.put_inside_some-at.ensures env d m) c.put_bytes.ensures
+unfolding emit_constraint odd_pieces odd_piece
+returns c = λ env d. emits_say refl (shows_fix c.put_bytes.ensures shows_none) ⟫ c.put_inside_some.ensures env d ⟫ emits_say refl (shows_fix c.put_bytes-2.ensures shows_none)

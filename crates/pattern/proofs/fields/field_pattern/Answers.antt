@@ -1,15 +1,24 @@
-use Prim.Native.Nat.{◌-◌}
-use mathlib.Core.Path.{ap, ◌∙◌}
-use Rattle.codegen.specs.Sema.{is_ref}
-use Rattle.sema.specs.Fields.{fields_held}
-use Rattle.pattern.proofs.Laws.{emits_skipped, emits_field}
+use Rattle.std.proofs.Common.{refl}
+use Rattle.codegen.specs.Piece.{odd_piece, odd_pieces}
+use Rattle.codegen.specs.Pattern.{field_patterns}
+use Rattle.view.specs.Buffers.{env_of}
+use Rattle.sema.specs.Fields.{fields_read}
+use Rattle.emits.specs.Sinks.{shows_none, shows_piece, shows_fix}
+use Rattle.emits.specs.Runs.{emits_say, ◌⟫◌}
+use Rattle.consts.specs.EmitsLaws.{shows_new_put, shows_break_put}
+use Rattle.expr_parts.proofs.Laws.{odd_head, emits_nothing}
 use Rattle.pattern.proofs.fields.field_pattern.Goals as goal
 
-pub returns-then-b-eq65537 : goal.returns-then-b-eq65537
-returns-then-b-eq65537 c = λ env index n h. emits_skipped _ _ c.args.b c.if-b-eq65537.true
+pub returns-in-Some : goal.returns-in-Some
+unfolding field_patterns odd_pieces odd_piece
+returns-in-Some c =
+    let env = env_of c.args.plan.now in
+    rw c.in-Some.is
+    (emits_say (odd_head (fields_read c.args.plan.now c.args.f) c.args.i 1) (shows_break_put c.put_break.ensures (shows_piece (c.put_name.ensures c.args.depth) (shows_fix c.put_bytes.ensures shows_none)))
+    ⟫ rw (c.is_ref.ensures, c.ty.ensures) at (c.put_ref.ensures env c.args.depth)
+    ⟫ emits_say refl (shows_new_put c.put_var.ensures (shows_fix c.put_bytes-in-Some.ensures shows_none))
+    ⟫ emits_nothing)
 
-pub shape_of-out : goal.shape_of-out
-shape_of-out c = c.put_bytes.auto.out ∙ c.put_var-at.auto.out ∙ c.put_ref-at.auto.out ∙ c.put_bytes-at.auto.out ∙ c.put_field_name-at.auto.out ∙ c.put_break-at.auto.out
-
-pub returns : goal.returns
-returns c = λ env index n h. emits_field (fields_held c.args.words.now c.args.rows.now c.args.f) c.args.i c.args.b c.is_ref-wanted.result c.if-b-eq65537.false (c.is_ref-wanted.ensures env c.args.plan.now index h ∙ ap (is_ref env) c.field_type.ensures) c.put_break-at.ensures (c.put_field_name-at.ensures env index _ h) c.put_bytes-at.ensures (c.put_ref-at.ensures env _ n) c.put_var-at.ensures c.put_bytes.ensures
+pub returns-in_default : goal.returns-in_default
+unfolding field_patterns
+returns-in_default c = rw c.in_default.is emits_nothing

@@ -1,19 +1,16 @@
-use Prim.Native.Nat.{ℕ, ◌≤◌, ◌-◌}
-use mathlib.Core.Path.{◌≡◌}
-use mathlib.Core.List.{List}
-use lib.ListN.{length, drop}
-use Rattle.plan.specs.Plan.{Environment}
+use Rattle.std.proofs.Common.{length, drop}
 use Rattle.rows.specs.View.{patterns_in}
-use Rattle.layout.specs.View.{cut}
 use Rattle.codegen.specs.Pattern.{field_patterns}
-use Rattle.emits.specs.Emits.{Rest}
+use Rattle.view.specs.Buffers.{words_of, env_of}
+use Rattle.emits.specs.Runs.{Rest}
 use Rattle.emits.specs.Marks.{set_of}
-use Rattle.sema.specs.Fields.{fields_held}
-use Rattle.sema.specs.Holds.{Holds}
+use Rattle.sema.specs.Fields.{fields_read}
 use Rattle.pattern.proofs.fields.field_patterns.Given as goal
 
-abbrev pub invariant-loop-k : goal.invariant-loop-k
-invariant-loop-k l = (7 ≤ l.k) × (length l.out ≡ length l.initial.out) × (length l.refs ≡ length l.initial.refs) × ((env : Environment) (index : List ℕ) (n : ℕ) → Holds env l.plan l.words l.rows l.tables index → Rest l.end env l.depth (field_patterns env (fields_held l.words l.rows l.f) 0 (patterns_in (drop 7 (cut l.words l.rows l.r)))) l.initial.out l.at n (set_of l.initial.refs) (field_patterns env (fields_held l.words l.rows l.f) (l.k - 7) (patterns_in (drop l.k (cut l.words l.rows l.r)))) l.out l.a n (set_of l.refs))
-
-abbrev pub decreases-loop-k : goal.decreases-loop-k
-decreases-loop-k l = l.last - l.k
+abbrev pub invariant-loop-i : goal.invariant-loop-i
+invariant-loop-i l =
+    let env = env_of l.plan in
+    let f = fields_read l.plan l.f in
+    let ws = drop 7 (words_of l.plan l.r) in
+    let n = length l.yielded in
+    Rest env l.depth (field_patterns env f 0 (patterns_in ws)) l.initial.w (set_of l.initial.refs) (field_patterns env f n (patterns_in (drop n ws))) l.w (set_of l.refs)

@@ -18,7 +18,7 @@ pub returns-then-is_constant : goal.returns-then-is_constant
 returns-then-is_constant c = record {
   names = c.bind_patterns.ensures.names;
   ready = ready_fresh (c.raise.ensures c.requires.latest);
-  found = record { is = λ l. own_constant _ (set_of c.args.bound.now) c.args.q (words_of c.args.bindings.now.plan.now c.args.r) (sym c.is_constant.ensures ∙ c.if-is_constant.true) };
+  found = record { is = λ l. own_constant _ (set_of c.args.bound.now) c.args.q (words_of c.args.bindings.now.plan.now c.args.r) (rw c.constraint_at.ensures at (sym c.is_constant.ensures ∙ c.if-is_constant.true)) };
 }
 
 pub returns : goal.returns
@@ -27,6 +27,6 @@ returns c = record {
   ready = ready_fresh (c.raise-2.ensures c.uses_own-found.ensures.latest);
   found = record {
     is = λ l. c.uses_own-found.ensures.found.is l
-        ∙ rw c.bind_patterns.ensures.names (own_asked _ (set_of c.args.bound.now) c.args.q (words_of c.args.bindings.now.plan.now c.args.r) (env_of c.args.bindings.now.plan.now) (sym c.is_constant.ensures ∙ c.if-is_constant.false));
+        ∙ rw c.bind_patterns.ensures.names (own_asked _ (set_of c.args.bound.now) c.args.q (words_of c.args.bindings.now.plan.now c.args.r) (env_of c.args.bindings.now.plan.now) (rw c.constraint_at.ensures at (sym c.is_constant.ensures ∙ c.if-is_constant.false)));
   };
 }

@@ -1,14 +1,21 @@
-use mathlib.Core.Path.{ap}
-use Rattle.sema.specs.Signature.{return_kind_told, sig_told}
-use Rattle.view.specs.Told.{function_told}
-use Rattle.step_parts.proofs.BufferLaws.{shows_let_mut, shows_no_buffer, buffer_option, buffer_plain}
+use mathlib.Core.Logic.{inl, inr}
+use Rattle.codegen.specs.ReturnKind.{by_return_kind}
+use Rattle.codegen.specs.Block.{buffer, let_head}
+use Rattle.view.specs.Buffers.{env_of}
+use Rattle.emits.specs.Sinks.{shows_none, shows_fix, shows_append}
+use Rattle.consts.specs.EmitsLaws.{shows_new_put, shows_break_put}
 use Rattle.step_parts.proofs.buffer.let_call.Goals as goal
 
 pub returns-in-Iterator : goal.returns-in-Iterator
-returns-in-Iterator c = λ env index h. shows_let_mut c.args.b (sig_told env c.args.sig) (function_told c.args.sig.func) (ap return_kind_told c.in-Iterator.is) c.put_bytes-at.ensures c.put_var-at.ensures c.put_bytes-at-in-Iterator.ensures (c.put_buffer-at.ensures env index c.args.depth h) c.put_bytes-at-in-Iterator-2.ensures c.put_break.ensures
+unfolding let_head buffer by_return_kind
+returns-in-Iterator c =
+    rw c.in-Iterator.is
+    (shows_fix c.put_bytes.ensures (shows_new_put c.put_var.ensures (shows_fix c.put_bytes-in-Iterator.ensures
+    (shows_append (c.put_buffer.ensures c.args.depth) (shows_fix c.put_bytes-in-Iterator-2.ensures (shows_break_put c.put_break.ensures shows_none))))))
 
 pub returns-in-Option : goal.returns-in-Option
-returns-in-Option c = λ env index h. shows_no_buffer c.args.b (sig_told env c.args.sig) (function_told c.args.sig.func) (buffer_option (sig_told env c.args.sig) (function_told c.args.sig.func) (ap return_kind_told c.in-Option.is)) (c.let_value.ensures env c.args.depth)
-
-pub returns-in-Plain : goal.returns-in-Plain
-returns-in-Plain c = λ env index h. shows_no_buffer c.args.b (sig_told env c.args.sig) (function_told c.args.sig.func) (buffer_plain (sig_told env c.args.sig) (function_told c.args.sig.func) (ap return_kind_told c.in-Plain.is)) (c.let_value-in-Plain.ensures env c.args.depth)
+unfolding buffer by_return_kind
+returns-in-Option c = elim c.in-Option.is [
+  | inl h ↦ rw h (c.let_value.ensures (env_of c.args.plan.now) c.args.depth)
+  | inr h ↦ rw h (c.let_value.ensures (env_of c.args.plan.now) c.args.depth)
+]

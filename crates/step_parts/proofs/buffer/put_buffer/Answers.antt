@@ -1,19 +1,15 @@
-use mathlib.Core.Path.{ap}
+use mathlib.Core.Logic.{inl, inr}
 use Rattle.codegen.specs.Sema.{is_external}
-use Rattle.view.specs.Told.{function_told}
-use Rattle.sema.specs.Signature.{sig_told}
-use Rattle.view.specs.declared.environment.FunctionKind.{FunctionKind}
-use Rattle.step_parts.proofs.BufferLaws.{shows_wrapper, shows_returns}
+use Rattle.emits.specs.Sinks.{shows_none, shows_fix, shows_append}
 use Rattle.step_parts.proofs.buffer.put_buffer.Goals as goal
-
-pub returns-in-Absent : goal.returns-in-Absent
-unfolding is_external
-returns-in-Absent c = λ env index d h. shows_wrapper _ (sig_told env c.args.sig).func_name (ap (λ (k : FunctionKind). is_external (function_told k)) c.in-Absent.is) c.put_bytes.ensures
-
-pub returns-in-Internal : goal.returns-in-Internal
-unfolding is_external
-returns-in-Internal c = λ env index d h. shows_wrapper _ (sig_told env c.args.sig).func_name (ap (λ (k : FunctionKind). is_external (function_told k)) c.in-Internal.is) c.put_bytes-in-Internal.ensures
 
 pub returns-in-External : goal.returns-in-External
 unfolding is_external
-returns-in-External c = λ env index d h. shows_returns _ (ap (λ (k : FunctionKind). is_external (function_told k)) c.in-External.is) c.put_bytes-at.ensures (c.put_func_name-at.ensures env index d h) c.put_bytes-in-External.ensures
+returns-in-External c = λ d. rw c.in-External.is (shows_fix c.put_bytes.ensures (shows_append (rw c.in-External.is at (c.put_func_name.ensures d)) (shows_fix c.put_bytes-in-External.ensures shows_none)))
+
+pub returns-in-Absent : goal.returns-in-Absent
+unfolding is_external
+returns-in-Absent c = λ d. elim c.in-Absent.is [
+  | inl h ↦ rw h (shows_fix c.put_bytes-in-Absent.ensures shows_none)
+  | inr h ↦ rw h (shows_fix c.put_bytes-in-Absent.ensures shows_none)
+]

@@ -1,10 +1,12 @@
-use mathlib.Core.Path.{◌∙◌}
-use Rattle.emits.specs.Marks.{set_of}
-use Rattle.step_parts.proofs.HeadLaws.{emits_equal_head}
+use Rattle.std.proofs.Common.{refl}
+use Rattle.codegen.specs.Piece.{odd_piece, odd_pieces}
+use Rattle.codegen.specs.Block.{equal_head}
+use Rattle.emits.specs.Sinks.{shows_none, shows_fix, shows_brace}
+use Rattle.emits.specs.Runs.{emits_say, ◌⟫◌}
 use Rattle.step_parts.proofs.heads.equal_head.Goals as goal
 
-pub shape_of-out : goal.shape_of-out
-shape_of-out c = c.put_bytes-at-3.auto.out ∙ c.emit_expr-w-2.auto.out ∙ c.put_bytes-at-2.auto.out ∙ c.emit_expr-w.auto.out ∙ c.put_bytes-at.auto.out
-
-pub returns : goal.returns
-returns c = λ env y f g h. emits_equal_head y f.c_env f.c_bindings (set_of c.args.bound.now) c.args.a c.args.b c.put_bytes-at.ensures (c.emit_expr-w.ensures env f.holds f.lower g) c.put_bytes-at-2.ensures (c.emit_expr-w-2.ensures env f.holds f.lower h) c.put_bytes-at-3.ensures
+pub returns-clause-emits : goal.returns-clause-emits
+unfolding equal_head odd_pieces odd_piece
+returns-clause-emits c = λ f g h.
+    emits_say refl (shows_fix c.put_bytes.ensures shows_none) ⟫ c.emit_expr.ensures f.indexed f.lower g ⟫ emits_say refl (shows_fix c.put_bytes-2.ensures shows_none) ⟫ c.emit_expr-2.ensures f.indexed f.lower h
+    ⟫ emits_say refl (shows_brace c.put_bytes-3.ensures shows_none)

@@ -1,7 +1,10 @@
-use Rattle.emits.specs.Marks.{set_of}
-use Rattle.view.specs.Told.{constraint_told}
-use Rattle.step_parts.proofs.HeadLaws.{emits_match_head}
+use Rattle.std.proofs.Common.{refl}
+use Rattle.codegen.specs.Piece.{odd_piece, odd_pieces}
+use Rattle.codegen.specs.Block.{match_head}
+use Rattle.emits.specs.Sinks.{shows_none, shows_fix, shows_brace}
+use Rattle.emits.specs.Runs.{emits_say, ◌⟫◌}
 use Rattle.step_parts.proofs.heads.match_head.Goals as goal
 
-pub returns : goal.returns
-returns c = λ env y f g. emits_match_head y f.c_env f.c_bindings (set_of c.args.bound.now) c.args.q (constraint_told c.args.k) c.put_bytes-at.ensures (c.emit_source-w.ensures env f.holds f.lower g) c.put_bytes-at-2.ensures
+pub returns-clause-emits : goal.returns-clause-emits
+unfolding match_head odd_pieces odd_piece
+returns-clause-emits c = λ f g. emits_say refl (shows_fix c.put_bytes.ensures shows_none) ⟫ c.emit_source.ensures f.indexed f.lower g ⟫ emits_say refl (shows_brace c.put_bytes-2.ensures shows_none)

@@ -1,7 +1,9 @@
-use Rattle.step_parts.specs.Leads.{lines_words}
-use Rattle.codegen.specs.Block.{opening, emit_check}
+use Rattle.std.proofs.Common.{ap}
+use Rattle.codegen.specs.Block.{emit_check}
+use Rattle.emits.specs.Marks.{set_of}
+use Rattle.steps.proofs.CheckLaws.{own_opening}
 use Rattle.steps.proofs.check.emit_equal.Goals as goal
 
 pub returns : goal.returns
-unfolding emit_check opening
-returns c = λ env y i fs l rs f d g h. lines_words d c.put_indent-at.ensures (c.equal_head-w.ensures env y f g h) c.put_byte-at.ensures
+unfolding emit_check
+returns c = λ l rs. own_opening (set_of c.args.context.now.is_bound) c.put_indent.ensures (λ d f. c.equal_head.ensures.emits f d.0 d.1) c.put_byte.ensures (ap set_of c.equal_head.ensures.same.bound) c.equal_head.ensures.same.nesting

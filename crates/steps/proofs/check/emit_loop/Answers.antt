@@ -1,6 +1,13 @@
+use Rattle.std.proofs.Common.{refl}
+use Rattle.codegen.specs.Block.{emit_check}
 use Rattle.emits.specs.Marks.{set_of}
-use Rattle.steps.proofs.CheckLaws.{loop_source, lines_loop}
+use Rattle.emits.specs.Runs.{emits_say}
+use Rattle.body.specs.Told.{env_in}
+use Rattle.steps.proofs.CheckLaws.{own_opening, odd_loop, loop_source}
 use Rattle.steps.proofs.check.emit_loop.Goals as goal
 
 pub returns : goal.returns
-returns c = (λ env y i fs l rs n q f d. lines_loop y (set_of c.args.bound.now) l c.args.r c.word-q.result rs (loop_source c.args.words.now c.args.rows.now c.args.tables.now c.args.t c.args.r c.binding_row-row.result c.word-q.result y.bindings (c.binding_row-row.ensures c.args.words.now) c.word-q.ensures f.c_bindings) d c.put_indent-at.ensures (c.loop_head-at.ensures env) c.put_byte.ensures, c.insert.ensures)
+unfolding emit_check
+returns c = λ l rs.
+    let source = loop_source c.args.body.now c.args.r c.binding_row-row.result c.binding_row-row.ensures in
+    own_opening (set_of c.args.context.now.is_bound) c.put_indent.ensures (λ d f. emits_say (odd_loop _ _) (rw (c.list_word-q.ensures, source) at (c.loop_head.ensures (env_in c.args.body.now)))) c.put_byte.ensures c.insert.ensures refl

@@ -1,5 +1,13 @@
-use Rattle.step_parts.specs.Leads.{lines_words}
+use Rattle.std.proofs.Common.{refl}
+use Rattle.codegen.specs.Block.{lets}
+use Rattle.body.specs.Lines.{lines_words}
 use Rattle.steps.proofs.lets.emit_let.Goals as goal
 
 pub returns : goal.returns
-returns c = (λ env y i fs f h g. lines_words h c.put_indent-at.ensures (c.let_line-w.ensures env y f g) c.put_byte-at.ensures, c.insert.ensures)
+unfolding lets
+returns c = record {
+  lines = λ d f i fs t. lines_words t.depth c.put_indent.ensures (c.let_line.ensures.emits f d) c.put_byte.ensures;
+  frame = λ r. refl;
+  bound = λ r. rw c.let_line.ensures.same.bound at c.insert.ensures;
+  nesting = c.let_line.ensures.same.nesting;
+}

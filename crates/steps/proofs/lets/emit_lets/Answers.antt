@@ -1,26 +1,25 @@
-use mathlib.Core.Path.{refl, sym, ◌∙◌}
-use native.Mathlib.Omega.{arith}
-use Prim.Native.Nat.{◌-◌}
-use lib.ListN.{drop}
-use Rattle.layout.specs.View.{cut}
-use Rattle.steps.proofs.LetLaws.{lets_bound, insert_word, insert_end, lets_end, lets_turn, word_small}
-use Rattle.emits.specs.Marks.{set_of}
+use Rattle.std.proofs.Common.{length, drop, ap, ◌∙◌, arith}
+use Rattle.std.proofs.lemmas.Iterator.{YieldsList-from_slice}
+use Rattle.std.proofs.lemmas.Iterator.Adapters.{YieldsList-from_skip}
+use Rattle.std.proofs.lemmas.Iterator.Consumers.{YieldsList-turn, YieldsList-end}
+use Rattle.std.proofs.lemmas.List.{get_or_default, length_push}
+use Rattle.body.specs.Told.{row_in}
+use Rattle.steps.proofs.CheckLaws.{own_deep}
+use Rattle.steps.proofs.LetLaws.{lets_more, lets_done}
+use Rattle.context.specs.declared.body_context.Nesting.{Nesting}
 use Rattle.steps.proofs.lets.emit_lets.Goals as goal
 
-pub loop-k-init : goal.loop-k-init
-loop-k-init c = (omega arith, refl, refl, refl, refl, λ env y i fs f h g. record { ends = λ o' at' n' q' p. p })
-
-pub loop-k-preserved : goal.loop-k-preserved
-loop-k-preserved c = (omega arith, c.emit_let-w.auto.out ∙ c.loop-k.invariant.1, c.emit_let-w.auto.refs ∙ c.loop-k.invariant.2, c.emit_let-w.auto.bound ∙ c.loop-k.invariant.3, insert_word (cut c.args.words.now c.args.rows.now c.args.r) c.loop-k.k c.word-b.result (set_of c.loop-k.bound) _ (omega (arith, c.row_len-last.ensures)) c.word-b.ensures c.emit_let-w.ensures.1 ∙ c.loop-k.invariant.4, λ env y i fs f h g. lets_turn y (cut c.args.words.now c.args.rows.now c.args.r) c.loop-k.k c.word-b.result (set_of c.loop-k.bound) _ (omega (arith, c.row_len-last.ensures)) c.word-b.ensures c.emit_let-w.ensures.1 (c.loop-k.invariant.5 env y i fs f h g) (c.emit_let-w.ensures.0 env y i fs f h (omega (arith, c.word-b.ensures, word_small c.args.words.now c.args.rows.now (λ i. omega (arith, c.shared_slice_known-2-1.given i)) c.args.r c.loop-k.k))))
-
-pub shape_of-out : goal.shape_of-out
-shape_of-out c = c.loop-k.invariant.1
-
-pub shape_of-refs : goal.shape_of-refs
-shape_of-refs c = c.loop-k.invariant.2
-
-pub shape_of-bound : goal.shape_of-bound
-shape_of-bound c = c.loop-k.invariant.3
+pub loop-b-preserved : goal.loop-b-preserved
+loop-b-preserved c =
+    let ws = row_in c.args.body.now c.args.r in
+    let k = length c.loop-b.yielded in
+    let t = YieldsList-turn (YieldsList-from_skip 7 (YieldsList-from_slice ws cc) cc) c.loop-b.yielded _ c.loop-b.yielded_by _ _ c.in-Some.b c.in-Some.is c.next.ensures.steps in
+    let word = t.1 ∙ get_or_default (drop 7 ws) k _ 0 t.0 in
+    let same = ap (λ (n : Nesting). n.depth) c.loop-b.invariant.nesting in
+    rw (length_push c.loop-b.yielded c.in-Some.b) (lets_more c.loop-b.invariant t.0 word (own_deep (λ d. omega (arith, same)) c.emit_let.ensures))
 
 pub returns : goal.returns
-returns c = (λ env y i fs f h g. ((c.loop-k.invariant.5 env y i fs f h g).ends _ _ _ _ (lets_end y (cut c.args.words.now c.args.rows.now c.args.r) c.loop-k.k (set_of c.loop-k.bound) (omega (arith, c.row_len-last.ensures)))).is, λ y q. sym (insert_end (cut c.args.words.now c.args.rows.now c.args.r) c.loop-k.k (set_of c.loop-k.bound) (omega (arith, c.row_len-last.ensures))) ∙ c.loop-k.invariant.4 ∙ sym (lets_bound y (drop 7 (cut c.args.words.now c.args.rows.now c.args.r)) q (set_of c.args.bound.now)))
+returns c =
+    let ws = row_in c.args.body.now c.args.r in
+    let t = YieldsList-end (YieldsList-from_skip 7 (YieldsList-from_slice ws cc) cc) c.loop-b.yielded _ c.loop-b.yielded_by _ _ c.in-None.is c.next.ensures.steps in
+    lets_done c.loop-b.invariant (omega (arith, t.1))

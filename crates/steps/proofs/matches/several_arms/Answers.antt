@@ -1,5 +1,7 @@
-use Rattle.step_parts.specs.Leads.{lines_words}
+use Rattle.std.proofs.Common.{ap}
+use Rattle.emits.specs.Marks.{set_of}
+use Rattle.steps.proofs.CheckLaws.{own_opening}
 use Rattle.steps.proofs.matches.several_arms.Goals as goal
 
 pub returns : goal.returns
-returns c = λ env y i fs f d g. lines_words d c.put_indent-at.ensures (c.match_head-w.ensures env y f g) c.put_byte-at.ensures
+returns c = own_opening (set_of c.args.context.now.is_bound) c.put_indent.ensures (λ d f. c.match_head.ensures.emits f d) c.put_byte.ensures (ap set_of c.match_head.ensures.same.bound) c.match_head.ensures.same.nesting

@@ -1,0 +1,6 @@
+use Rattle.row_frames.specs.Told.{purpose_told}
+use Rattle.blocks.specs.Row.{row_kept}
+use Rattle.blocks.proofs.walk.emit_row.Goals as goal
+
+pub returns : goal.returns
+returns c = row_kept (purpose_told c.args.purpose) c.args.r c.args.last c.emit_bind_order.ensures c.emit_rest.ensures c.save_scope.ensures

@@ -1,0 +1,5 @@
+pub mod Leads
+pub mod Lines
+pub mod Own
+pub mod Told
+pub mod Walks

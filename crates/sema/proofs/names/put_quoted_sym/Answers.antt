@@ -1,6 +1,0 @@
-use borrow.Author.Rules.{rules}
-use Rattle.sema.proofs.Laws.{sym_is, read}
-use Rattle.sema.proofs.names.put_quoted_sym.Goals as goal
-
-pub returns : goal.returns
-returns c = λ env index h. rw (← sym_is (read h) c.args.n, ← c.row_at-quoted_sym.ensures c.args.words.now, ← c.text_at.ensures) (search rules)

@@ -1,5 +1,0 @@
-use Rattle.text.specs.SinkLaws.{Stores}
-use Rattle.text.proofs.sink.put_bytes.Given as goal
-
-abbrev pub invariant-loop-i : goal.invariant-loop-i
-invariant-loop-i l = Stores l.initial.out l.at l.src l.i l.out

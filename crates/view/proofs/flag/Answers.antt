@@ -1,5 +1,0 @@
-use mathlib.Core.Path.{refl}
-use Rattle.view.proofs.flag.Goals as goal
-
-pub returns : goal.returns
-returns c = rw (← c.word.ensures) refl
