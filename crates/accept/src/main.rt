@@ -1,4 +1,5 @@
 // Reads a plan on standard input and prints `accepted`, or `refused N`.
+// It differs from the other programs in the function that it hands on: each is a `main` of its own.
 #![tactic(auto)]
 
 use std::io;

@@ -4,4 +4,5 @@ pub mod Middle
 pub mod Row
 pub mod Nesting
 pub mod Stack
+pub mod Frames
 pub mod Loop

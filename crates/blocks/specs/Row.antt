@@ -1,8 +1,8 @@
 -- What the functions for one row of a block do. Assumes nothing.
 use Rattle.std.specs.Prelude as code
-use Rattle.std.specs.Prelude.{ℕ, suc, ◌+◌, ◌<◌, ◌≡◌, Bool, true, false, ◌&&◌, ltb, length, List, get_or, drop}
+use Rattle.std.specs.Prelude.{ℕ, suc, ◌+◌, ◌≤◌, ◌<◌, ◌≡◌, Bool, true, false, ◌&&◌, ltb, leb, min, length, List, get_or, drop}
 use Rattle.std.proofs.Math.Path.{refl, sym}
-use Rattle.std.proofs.Common.{subst, ◌∙◌, add-one, append_assoc, arith}
+use Rattle.std.proofs.Common.{ap, subst, ◌∙◌, add-one, append_assoc, leb-true, leb-false, arith}
 use Rattle.std.proofs.Math.Option.{Option, none}
 use Rattle.text.specs.Writes.{Writes}
 use Rattle.text.specs.declared.sink.Sink.{Sink}
@@ -15,8 +15,8 @@ use Rattle.emits.specs.Marks.{set_of}
 use Rattle.context.specs.Closing.{opening_text}
 use Rattle.context.specs.Laws.{opening_is, opening_odds}
 use Rattle.context.specs.declared.body_context.BodyContext.{BodyContext}
-use Rattle.view.specs.BlockRows.{step_is, arm_is}
-use Rattle.row_frames.specs.Scopes.{Saved}
+use Rattle.view.specs.BlockRows.{level_is, step_is, arm_is}
+use Rattle.row_frames.specs.Rows.{rows_none}
 use Rattle.body.specs.declared.Body.{Body}
 use Rattle.body.specs.Told.{env_in, row_in, rows_in, body_told, splits_above, Fits, StandsIn}
 use Rattle.body.specs.Leads.{place_append}
@@ -42,6 +42,14 @@ own_in b bound p r last = λ q. own (body_told b) q bound p (block_of (row_in b 
 abbrev pub weight_in : Body → ℕ → ℕ → ℕ
 weight_in b r last = block_weight (level (block_of (row_in b r))) (rows_in b last (r + 1))
 
+-- a number past the last row that can't count one more is as good as one more
+pub weight_is : (b : Body) (r last : ℕ) {n k : ℕ} → last < 18446744073709551616 → n ≡ min (r + 1) 18446744073709551615 → k ≡ block_weight (nth (row_in b r) 0) (rows_in b last n) → k ≡ weight_in b r last
+weight_is b r last {n} {k} h g e = e ∙ rw (level_is (row_in b r)) (ap (block_weight (nth (row_in b r) 0)) (by_test (leb last r) refl))
+  where
+    by_test : (x : Bool) → leb last r ≡ x → rows_in b last n ≡ rows_in b last (r + 1)
+    by_test true q = let l : last ≤ r = leb-true last r q in rw (rows_none b.plan.now.words.now b.plan.now.rows.now n last (omega arith), rows_none b.plan.now.words.now b.plan.now.rows.now (r + 1) last (omega arith))
+    by_test false q = let l : r < last = leb-false last r q in let m : n ≡ r + 1 = omega arith in rw m
+
 -- From the sink w and the state s, what a row's `o` says leads to w' and s': its lines, and the opening of its closure if it splits, are
 -- written inside the frames around. Which frame it opens, whether that splits, by its weight, and which bindings have names after it, hold
 -- wherever the writing is.
@@ -52,11 +60,12 @@ pub record WritesRow (b : Body) (o : Marks → Own) (weight : ℕ) (w : Sink) (s
   pub nesting : s'.nesting ≡ s.nesting
   pub weighs : (sp : ℕ → Bool) → Splitting sp b.threshold → splits ≡ is_arm_body opens && sp weight
 
--- Row r, inside a frame of the purpose p, writes its own; the bindings that have names where its frame closes are kept at the place `top`.
-pub record RowKept (b : Body) (p : Purpose) (r last : ℕ) (w : Sink) (s : BodyContext) (scopes : List (List Bool)) (top : ℕ) (opens : Option Purpose) (splits : Bool) (w' : Sink) (s' : BodyContext) (scopes' : List (List Bool)) : Type 0 where
+-- Row r, inside a frame of the purpose p, writes its own; unless it is a `return`, which opens no frame, `kept` is the bindings that have
+-- names where its frame closes.
+pub record RowKept (b : Body) (p : Purpose) (r last : ℕ) (w : Sink) (s : BodyContext) (opens : Option Purpose) (splits : Bool) (w' : Sink) (s' : BodyContext) (kept : List Bool) : Type 0 where
   pub row : WritesRow b (own_in b (set_of s.is_bound) p r last) (weight_in b r last) w s opens splits w' s'
   pub scope : List Bool
-  pub saved : Saved (nth (row_in b r) 1) scopes top scope scopes'
+  pub saved : (nth (row_in b r) 1 ≡ 3 → ⊥) → kept ≡ scope
   pub outside : (q : Marks) → (own_in b (set_of s.is_bound) p r last q).outside ≡ set_of scope
 
 -- A STEP AND AN ARM
@@ -125,7 +134,7 @@ module _ {b : Body} (p : Purpose) (r last : ℕ) {w : Sink} {s : BodyContext} {w
         weighs = v.weighs;
       }
 
-  pub row_kept : {scopes scopes' : List (List Bool)} {top : ℕ} → Saved (nth (row_in b r) 1) scopes top s₁.is_bound scopes' → RowKept b p r last w s scopes top opens splits w' s' scopes'
+  pub row_kept : {kept : List Bool} → ((nth (row_in b r) 1 ≡ 3 → ⊥) → kept ≡ s₁.is_bound) → RowKept b p r last w s opens splits w' s' kept
   unfolding joined
   row_kept k = record {
     row = writes_row;

@@ -59,9 +59,8 @@ fn is_arm_body(opens: Option<Purpose>) -> bool
 }
 
 // codegen.rs 880: does row r split, an arm that has a frame of its own? Nothing is weighed where the term can't split.
-#[tactic(auto, using(view::specs::BlockRows::level_is))]
+#[tactic(auto, using(crate::specs::Row::weight_is))]
 fn splits_at(body: &Body<'_>, r: usize, last: usize, opens: Option<Purpose>) -> bool
-    requires { r < last }
     ensures { (sp : ℕ → Bool) → Splitting sp body.now.threshold → result ≡ is_arm_body (opens_told opens) && sp (weight_in body.now r last) }
 {
     if !is_arm_body(opens) {
@@ -69,7 +68,8 @@ fn splits_at(body: &Body<'_>, r: usize, last: usize, opens: Option<Purpose>) -> 
     }
     match body.threshold {
         Some(threshold) => {
-            threshold < weights::block_weight(body.plan, body.plan.word(r, 0), r + 1, last)
+            threshold
+                < weights::block_weight(body.plan, body.plan.word(r, 0), r.saturating_add(1), last)
         }
         None => false,
     }
@@ -84,7 +84,7 @@ pub fn emit_rest(
     last: usize,
     purpose: Purpose,
 ) -> RowDone
-    requires { (r < last) × (context.old.nesting.depth < 4095) }
+    requires { context.old.nesting.depth < 4095 }
     ensures { WritesRow body.now (check_in body.now (set_of context.old.is_bound) (purpose_told purpose) r last) (weight_in body.now r last) w.old context.old (opens_told result.opens) result.splits w.new context.new }
 {
     let depth = context.nesting.depth;

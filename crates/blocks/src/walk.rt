@@ -1,18 +1,18 @@
 // The walk over the rows of a block. A turn of the loop closes a frame, or has a row write its own, so it is no `for` over rows. There is no
 // heap: the stack has a place for each level of an accepted plan.
-ghost use Rattle.std.specs.Prelude.{◌≡◌, length, ◌+◌, ◌<◌};
+ghost use Rattle.std.specs.Prelude.{◌≡◌, length, ◌+◌, ◌^◌, ◌<◌};
 ghost use Rattle.codegen.specs.Block.{numbered};
 ghost use Rattle.rows.specs.View.{nth};
 ghost use Rattle.context.specs.Closing.{closure_told};
 ghost use Rattle.context.specs.Context.{outermost};
 ghost use Rattle.context.specs.Laws.{is_several};
 ghost use Rattle.row_frames.specs.Rows.{rows_from};
-ghost use Rattle.row_frames.specs.Scopes.{Saved};
 ghost use Rattle.row_frames.specs.Told.{purpose_told, opens_told};
 ghost use Rattle.body.specs.Told.{row_in};
 ghost use Rattle.blocks.specs.Stack.{next_level};
 ghost use Rattle.blocks.specs.Nesting.{Begun, Ended};
 ghost use Rattle.blocks.specs.Row.{RowKept};
+ghost use Rattle.blocks.specs.Frames.{Opened, Closed};
 ghost use Rattle.blocks.specs.Loop.{BlockWritten};
 
 use super::row::{RowDone, emit_bind_order, emit_rest};
@@ -23,24 +23,47 @@ use row_frames::{Purpose, frame_count, purpose_of};
 use text::sink::Sink;
 use view::buffers::Plan;
 
-// An open frame: one more than the level of its row (0: the root, which stands around each level), the row, what it is for, and the closure
-// in it.
+// An open frame: one more than the level of its row (0: the root, which stands around each level), the row, what it is for, the closure in
+// it, and the bindings that have names where it closes.
 #[derive(Clone, Copy)]
 pub struct Frame {
     pub level: usize,
     pub row: usize,
     pub purpose: Purpose,
     pub closure: Option<usize>,
+    pub bound: [bool; 1024],
 }
 
 impl Frame {
-    // What stands around every row.
-    const ROOT: Frame = Frame {
+    // What stands around every row. No binding has a name where it closes, since nothing comes after it.
+    pub const ROOT: Frame = Frame {
         level: 0,
         row: 0,
         purpose: Purpose::Body,
         closure: None,
+        bound: [false; 1024],
     };
+
+    // The frame is that of a row of a level, which has done this, where n closures have numbers. The bindings where it closes are kept.
+    fn begin(&mut self, level: usize, row: usize, done: RowDone, n: usize)
+        ensures { Opened level row (opens_told done.opens) done.splits n self.old self.new }
+    {
+        self.level = level;
+        self.row = row;
+        self.purpose = purpose_of(done.opens);
+        self.closure = number(done.splits, n);
+    }
+
+    // The frame closes, around which d are open: the bindings have names that had them where it opened.
+    fn end(&self, w: &mut Sink<'_>, context: &mut BodyContext, d: usize)
+        requires { (d + 1 < context.old.nesting.depth) × (context.old.nesting.depth < 4096) }
+        ensures { Closed self.now d w.old context.old w.new context.new }
+    {
+        let nesting = end_frame(context.nesting, d, self.closure);
+        context.is_bound = self.bound;
+        context.nesting = nesting;
+        end_block(w, nesting, self.closure, is_several(self.purpose));
+    }
 }
 
 // One more than the level of row r, 0 past the last row: there each frame closes, as its level is not below 0.
@@ -72,7 +95,7 @@ fn number(splits: bool, n: usize) -> Option<usize>
 // What a row does to the nesting: the block of the frame that it opens begins. If that has a closure, that is numbered, and its block
 // begins too: codegen.rs 885 to 889.
 fn begin_frame(nesting: Nesting, opens: Option<Purpose>, splits: bool) -> Nesting
-    requires { (nesting.depth < 4095) × (nesting.match_split < 4294967296) }
+    requires { (nesting.depth < 4095) × (nesting.match_split + 1 < 2 ^ 64) }
     ensures { Begun nesting (opens_told opens) splits result }
 {
     let mut inner = nesting;
@@ -100,91 +123,72 @@ fn end_frame(nesting: Nesting, d: usize, closure: Option<usize>) -> Nesting
     outer
 }
 
-// The bindings that have names where the frame that row r opens closes are kept; a `return` opens no frame: its kind is asked by its number,
-// since an arm is no `ControlFlow`.
-#[tactic(auto, using(row_frames::specs::Scopes::saved_none, row_frames::specs::Scopes::saved_set))]
-fn save_scope(
-    scopes: &mut [[bool; 1024]],
-    top: usize,
-    bound: &[bool; 1024],
-    body: &Body<'_>,
-    r: usize,
-)
-    requires { top < length scopes.old }
-    ensures { Saved (nth (row_in body.now r) 1) scopes.old top bound.now scopes.new }
+// The bindings that have names where the frame that row r opens closes are kept; a `return` opens no frame.
+fn save_scope(scope: &mut [bool; 1024], bound: &[bool; 1024], body: &Body<'_>, r: usize)
+    ensures { (nth (row_in body.now r) 1 ≡ 3 → ⊥) → scope.new ≡ bound.now }
 {
-    if body.plan.word(r, 1) == 3 {
-        return;
+    if !body.plan.is_return(r) {
+        *scope = enter_scope(*bound);
     }
-    scopes[top] = enter_scope(*bound);
 }
 
-// Row r, inside a frame of a purpose; the bindings that have names where the frame that it opens closes are kept at the place `top`.
+// Row r, inside a frame of a purpose; the bindings that have names where the frame that it opens closes are kept in `scope`.
 fn emit_row(
     w: &mut Sink<'_>,
     body: &Body<'_>,
     context: &mut BodyContext,
-    scopes: &mut [[bool; 1024]],
-    top: usize,
+    scope: &mut [bool; 1024],
     r: usize,
     last: usize,
     purpose: Purpose,
 ) -> RowDone
-    requires { (r < last) × (context.old.nesting.depth < 4095) × (top < length scopes.old) }
-    ensures { RowKept body.now (purpose_told purpose) r last w.old context.old scopes.old top (opens_told result.opens) result.splits w.new context.new scopes.new }
+    requires { context.old.nesting.depth < 4095 }
+    ensures { RowKept body.now (purpose_told purpose) r last w.old context.old (opens_told result.opens) result.splits w.new context.new scope.new }
 {
     emit_bind_order(w, body, context, r);
-    save_scope(scopes, top, &context.is_bound, body, r);
+    save_scope(scope, &context.is_bound, body, r);
     emit_rest(w, body, context, r, last, purpose)
 }
 
-// The rows from row `first` up to row `last`, the block of a generated term. The context has the arguments' marks. Lent is room for
-// the bindings that have names where each open frame closes.
+// The rows from row `first` up to row `last`, the block of a generated term. The context has the arguments' marks. Lent is room for the
+// frames that are open at once, with the root.
+// Not one generic function with the walk of `faults`: what a turn does at an opening and a closing differs, and each has its own invariant.
 pub fn emit_block_contents(
     w: &mut Sink<'_>,
     body: &Body<'_>,
-    context: &mut BodyContext,
-    scopes: &mut [[bool; 1024]],
+    context: BodyContext,
+    frames: &mut [Frame],
     first: usize,
     last: usize,
 )
-    requires { (last < 4294967296) × (0 < length scopes.old) × (context.old.nesting ≡ outermost) }
-    ensures { BlockWritten body.now first last (length scopes.old) context.old.is_ref context.old.is_bound w.old w.new }
+    requires { (0 < length frames.old) × (context.nesting ≡ outermost) }
+    ensures { BlockWritten body.now first last (length frames.old) context.is_ref context.is_bound w.old w.new }
 {
-    let mut stack = [Frame::ROOT; 65];
+    let mut state = context;
+    state.nesting = context.nesting.begin_block();
+    frames[0] = Frame::ROOT;
     let mut d = 0;
-    context.nesting = context.nesting.begin_block();
     let mut r = first;
     'rows: while w.at < w.end {
-        let nesting = context.nesting;
-        let f = stack[d];
         let next = next_level(body.plan, r, last);
-        if next <= f.level {
+        if next <= frames[d].level {
             if d == 0 {
                 return;
             }
-            context.is_bound = scopes[d];
+            frames[d].end(w, &mut state, d - 1);
             d -= 1;
-            context.nesting = end_frame(nesting, d, f.closure);
-            end_block(w, context.nesting, f.closure, is_several(f.purpose));
             continue;
         }
-        if 64 <= d {
-            return;
-        }
         let top = d + 1;
-        if scopes.len() <= top {
+        if frames.len().min(65) <= top {
             return;
         }
-        let s = emit_row(w, body, context, scopes, top, r, last, f.purpose);
-        stack[top] = Frame {
-            level: next,
-            row: r - first,
-            purpose: purpose_of(s.opens),
-            closure: number(s.splits, nesting.match_split),
-        };
+        let purpose = frames[d].purpose;
+        let f = &mut frames[top];
+        let s = emit_row(w, body, &mut state, &mut f.bound, r, last, purpose);
+        f.begin(next, r - first, s, state.nesting.match_split);
+        state.nesting = begin_frame(state.nesting, s.opens, s.splits);
         d += frame_count(s.opens);
-        context.nesting = begin_frame(nesting, s.opens, s.splits);
         r += 1;
     }
 }

@@ -3,3 +3,4 @@ pub mod Lines
 pub mod Own
 pub mod Told
 pub mod Walks
+pub mod Words

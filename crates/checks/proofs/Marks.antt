@@ -36,7 +36,7 @@ all_sources p i r (suc n) = rw (all_sources p (i + 1) (r + 1) n, add-one i) refl
 
 pub no_argument : (c : Binding) → ((i : ℕ) → c ≡ b.Argument i → ⊥) → argument_index (binding_told c) ≡ none
 no_argument (b.ConstBool v) n = refl
-no_argument (b.ConstInt ty high low) n = refl
+no_argument (b.ConstInt ty v) n = refl
 no_argument (b.ConstPrim v) n = refl
 no_argument (b.Argument i) n = absurd (n i refl)
 no_argument (b.Extractor m) n = refl

@@ -8,15 +8,15 @@ ghost use Rattle.view.specs.Buffers.{words_of, rows_of, plan_of};
 ghost use Rattle.checks.specs.Tests.{armed};
 
 use super::tables::all_generated;
-use view::block::ControlFlow;
+use rows::kinds::BlockKind;
 use view::buffers::Plan;
 
 // Whether row r is a match.
-#[tactic(auto, using(crate::proofs::Blocks::arm_no_match))]
+#[tactic(auto, using(crate::proofs::Blocks::a_match, crate::proofs::Blocks::no_match))]
 fn is_match(plan: &Plan<'_>, r: usize) -> bool
     ensures { result ≡ is_match (block_of (words_of plan.now r)) }
 {
-    plan.is_step(r) && matches!(plan.control_flow_at(r), ControlFlow::Match { .. })
+    matches!(plan.block_kind(r), BlockKind::Match)
 }
 
 // Whether row r, in a block that ends before row `end`, is no match or has the next row below it.

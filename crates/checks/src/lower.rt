@@ -18,7 +18,7 @@ fn all_below(plan: &Plan<'_>, t: usize) -> bool
 {
     (plan.first_row(t)..plan.end_row(t))
         .enumerate()
-        .all(|(i, r)| list_below(plan, r, 6, i))
+        .all(|(i, r)| list_below(plan.list(r, 6), i))
 }
 
 // Whether a binding stands for no argument or for one that isn't marked yet; it is from then on, if it has a mark.

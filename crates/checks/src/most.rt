@@ -39,7 +39,7 @@ fn environment_within(plan: &Plan<'_>) -> bool
     counts_within(plan)
         && all_rows(plan, TYPES, |r| plan.type_field_count(r) <= LIST_MOST)
         && all_rows(plan, VARIANTS, |r| plan.variant_field_count(r) <= LIST_MOST)
-        && all_rows(plan, TERMS, |r| plan.list_len(r, 8) <= LIST_MOST)
+        && all_rows(plan, TERMS, |r| plan.list(r, 8).len() <= LIST_MOST)
 }
 
 // Whether the level and the list of row r, of a block, are within their most.
@@ -47,7 +47,7 @@ fn environment_within(plan: &Plan<'_>) -> bool
 fn row_within(plan: &Plan<'_>, r: usize) -> bool
     ensures { result ≡ row_most (block_of (words_of plan.now r)) }
 {
-    plan.word(r, 0) <= LEVEL_MOST && plan.list_len(r, 7) <= LIST_MOST
+    plan.word(r, 0) <= LEVEL_MOST && plan.list(r, 7).len() <= LIST_MOST
 }
 
 // Whether the bindings and the block of a generated term are within their most.
@@ -57,7 +57,7 @@ fn generated_within(plan: &Plan<'_>, g: GeneratedTables) -> bool
 {
     plan.row_count(g.bindings) <= 1024
         && plan.row_count(g.block) <= 2048
-        && all_rows(plan, g.bindings, |r| plan.list_len(r, 6) <= LIST_MOST)
+        && all_rows(plan, g.bindings, |r| plan.list(r, 6).len() <= LIST_MOST)
         && all_rows(plan, g.block, |r| row_within(plan, r))
 }
 

@@ -1,16 +1,16 @@
 // Refusal 8: in a term not of iterator kind, a loop, or a block whose first return isn't its last step.
-ghost use Rattle.std.specs.Prelude.{◌≡◌, ◌||◌, [], map, ◌+◌, ◌-◌, get_or};
+ghost use Rattle.std.specs.Prelude.{◌≡◌, ◌||◌, map, ◌+◌, ◌-◌};
 ghost use Rattle.plan.specs.Row.{level};
+ghost use Rattle.plan.specs.Lookup.{term_at};
 ghost use Rattle.plan.specs.Refusal.{ends_block, returns_last, returns_fit};
-ghost use Rattle.rows.specs.View.{nth, term_of, block_of};
+ghost use Rattle.rows.specs.View.{block_of};
 ghost use Rattle.layout.specs.View.{cuts};
-ghost use Rattle.view.specs.Buffers.{words_of, rows_of, plan_of};
+ghost use Rattle.view.specs.Buffers.{words_of, rows_of, env_of, plan_of};
 ghost use Rattle.checks.specs.Tests.{ended, generated_of};
 
 use super::tables::{GeneratedTables, all_generated};
-use view::block::ControlFlow;
+use rows::kinds::BlockKind;
 use view::buffers::Plan;
-use view::tables::TERMS;
 
 // Whether row r, a return in a block that ends before row `end`, is the last step of its own block: no row after it is as deep.
 #[tactic(auto, using(crate::proofs::Blocks::last_alone, crate::proofs::Blocks::last_before))]
@@ -21,16 +21,13 @@ fn ends_block(plan: &Plan<'_>, r: usize, end: usize) -> bool
 }
 
 // Whether row r, in a block that ends before row `end`, is no loop, and no return or the last step of its block.
-#[tactic(auto, using(crate::proofs::Blocks::ended_arm))]
+#[tactic(auto, using(crate::proofs::Blocks::ended_loop, crate::proofs::Blocks::ended_return, crate::proofs::Blocks::ended_other))]
 fn is_last(plan: &Plan<'_>, r: usize, end: usize) -> bool
     ensures { result ≡ ended plan.now end r }
 {
-    if !plan.is_step(r) {
-        return true;
-    }
-    match plan.control_flow_at(r) {
-        ControlFlow::Loop { .. } => false,
-        ControlFlow::Return { .. } => ends_block(plan, r, end),
+    match plan.block_kind(r) {
+        BlockKind::Loop => false,
+        BlockKind::Return => ends_block(plan, r, end),
         _ => true,
     }
 }
@@ -43,20 +40,11 @@ fn block_ends(plan: &Plan<'_>, t: usize) -> bool
     (plan.first_row(t)..end).all(|r| is_last(plan, r, end))
 }
 
-// Whether the term that table t names is of iterator kind.
-#[tactic(auto, unfolding(rows::specs::View::term_of))]
-fn is_multi(plan: &Plan<'_>, t: usize) -> bool
-    ensures { result ≡ (term_of (get_or (rows_of plan.now 6) (nth (get_or (rows_of plan.now t) 0 []) 0) [])).multi }
-{
-    let term = plan.word(plan.row_at(t, 0), 0);
-    plan.flag(plan.row_at(TERMS, term), 3)
-}
-
 // Refusal 8 of a generated term.
 fn term_returns(plan: &Plan<'_>, g: GeneratedTables) -> bool
-    ensures { result ≡ ((term_of (get_or (rows_of plan.now 6) (generated_of plan.now g).term [])).multi || returns_last (generated_of plan.now g).rows) }
+    ensures { result ≡ ((term_at (env_of plan.now) (generated_of plan.now g).term).multi || returns_last (generated_of plan.now g).rows) }
 {
-    is_multi(plan, g.term) || block_ends(plan, g.block)
+    plan.is_multi(plan.word(plan.row_at(g.term, 0), 0)) || block_ends(plan, g.block)
 }
 
 #[tactic(auto, using(crate::proofs::Blocks::returns_tests))]

@@ -17,7 +17,7 @@ pub struct GeneratedTables {
 }
 
 // The tables of generated term i: three each.
-fn generated_tables(i: usize) -> GeneratedTables
+pub fn generated_tables(i: usize) -> GeneratedTables
     requires { i < 2 ^ 62 }
     ensures { result ≡ tables_at i }
 {

@@ -1,6 +1,6 @@
 -- The last lines of a term as bytes. Assumes nothing.
 use Rattle.std.specs.Prelude.{ℕ, zero, suc, ◌+◌, ◌-◌, ◌≤◌, ◌<◌, ◌≡◌, refl, Bool, true, false, cond, eqb, ltb, drop}
-use Rattle.std.proofs.Common.{◌∙◌, arith, le-ltb}
+use Rattle.std.proofs.Common.{◌∙◌, arith, le-ltb, ne_eqb}
 use Rattle.std.proofs.Math.Path.{ap}
 use mathlib.Core.List.{List, [], ◌∷◌, ◌++◌, append_assoc, append-nil}
 use Rattle.text.specs.Codes.{codes}
@@ -16,8 +16,6 @@ use Rattle.codegen.specs.Block.{text_of, odds_of}
 use Rattle.codegen.specs.Terms.{rowless, ends_in_return, last_expr, term_end}
 use Rattle.rows.specs.View.{nth, wide_at, step_made, arm_made, patterns_in, block_of}
 use Rattle.layout.specs.View.{cut}
-use Rattle.view.specs.Told.{control_flow_of}
-use Rattle.view.specs.declared.buffers.Plan.{Plan}
 use Rattle.view.specs.BlockRows.{level_is}
 use Rattle.row_frames.specs.Rows.{rows_from, rows_next, rows_none}
 use Rattle.splitting.specs.Lines.{text_append}
@@ -75,30 +73,26 @@ end_odds m rs = odds_append (rowless 1 (cond (ends_in_return false rs) [] (last_
 
 -- ROWS
 
--- the rows from row r up to row `last`
-abbrev pub rows_in : Plan → ℕ → ℕ → List Row
-rows_in p last r = rows_from p.words.now p.rows.now last r
-
 abbrev by_kind : (ws : List ℕ) (k : ℕ) → Row
 by_kind ws k = cond (ltb k 4) (step (nth ws 0) (step_made k (nth ws 2) (wide_at ws 3)) (drop 7 ws)) (arm (nth ws 0) (arm_made (k - 4) (nth ws 2) (wide_at ws 3)) (patterns_in (drop 7 ws)))
 
--- an arm that is read as a step is a match, and so no return either
-pub return_made : (ws : List ℕ) → is_return (block_of ws) ≡ is_return (step 0 (control_flow_of ws) [])
+return_is : (ws : List ℕ) → is_return (block_of ws) ≡ eqb (nth ws 1) 3
 unfolding block_of step_made
-return_made ws = by (nth ws 1)
+return_is ws = by (nth ws 1)
   where
-    by : (k : ℕ) → is_return (by_kind ws k) ≡ is_return (step 0 (step_made k (nth ws 2) (wide_at ws 3)) [])
+    by : (k : ℕ) → is_return (by_kind ws k) ≡ eqb k 3
     by zero = refl
     by (suc zero) = refl
     by (suc (suc zero)) = refl
     by (suc (suc (suc zero))) = refl
-    by (suc (suc (suc (suc k)))) = rw (le-ltb (suc (suc (suc (suc k)))) 4 (omega arith))
+    by (suc (suc (suc (suc k)))) = rw (le-ltb (suc (suc (suc (suc k)))) 4 (omega arith), ne_eqb (suc (suc (suc (suc k)))) 3 (λ q. absurd (omega arith)))
 
 module _ (words rows : List ℕ) (r last : ℕ) (b : Bool) where
-  pub returns_next : r < last → ends_in_return b (rows_from words rows last r) ≡ ends_in_return (cond (eqb (nth (cut words rows r) 0) 0) (is_return (block_of (cut words rows r))) b) (rows_from words rows last (r + 1))
+  pub returns_next : r < last → ends_in_return b (rows_from words rows last r) ≡ ends_in_return (cond (eqb (nth (cut words rows r) 0) 0) (eqb (nth (cut words rows r) 1) 3) b) (rows_from words rows last (r + 1))
   unfolding ends_in_return
   returns_next h = ap (λ (x : List Row). ends_in_return b x) (rows_next words rows r last h)
       ∙ ap (λ (n : ℕ). ends_in_return (cond (eqb n 0) (is_return (block_of (cut words rows r))) b) (rows_from words rows last (r + 1))) (level_is (cut words rows r))
+      ∙ ap (λ (t : Bool). ends_in_return (cond (eqb (nth (cut words rows r) 0) 0) t b) (rows_from words rows last (r + 1))) (return_is (cut words rows r))
 
   pub returns_end : last ≤ r → ends_in_return b (rows_from words rows last r) ≡ b
   unfolding ends_in_return

@@ -17,6 +17,7 @@ use Rattle.codegen.specs.Terms.{rowless, argument_lines, signature}
 use Rattle.splitting.specs.Lines.{text_append}
 use Rattle.splitting.specs.Simulation.{odds_append}
 use Rattle.emits.specs.Emits.{render_append, odd_append}
+use Rattle.sema.specs.Types.{param_text}
 
 -- lines that have no row, d deep
 unfoldable pub lines_text : Environment → ℕ → List (List Piece) → List ℕ
@@ -170,15 +171,12 @@ signature_odds env m =
 
 -- ARGUMENTS, one after the other
 
-unfoldable pub reference_text : Bool → List ℕ
-reference_text b = cond b (codes "&") []
-
 unfoldable pub argument_text : Environment → ℕ → ℕ → List ℕ
-argument_text env i ty = codes "    arg" ++ (decimal i ++ (codes ": " ++ (reference_text (is_ref env ty) ++ (type_text env (type_at env ty) ++ (44 ∷ 10 ∷ [])))))
+argument_text env i ty = codes "    arg" ++ (decimal i ++ (codes ": " ++ (param_text env ty ++ (44 ∷ 10 ∷ []))))
 
 argument_by : (env : Environment) (i ty : ℕ) (b : Bool) → (indent 1 ++ (render env 1 (fix "arg" refl ∷ num i ∷ fix ": " refl ∷ cond b (fix "&" refl ∷ []) [] ++ (type ty ∷ fix "," refl ∷ [])) ++ (10 ∷ [])))
-    ≡ codes "    arg" ++ (decimal i ++ (codes ": " ++ (reference_text b ++ (type_text env (type_at env ty) ++ (44 ∷ 10 ∷ [])))))
-unfolding bytes indent spaces reference_text
+    ≡ codes "    arg" ++ (decimal i ++ (codes ": " ++ ((cond b (codes "&") [] ++ type_text env (type_at env ty)) ++ (44 ∷ 10 ∷ []))))
+unfolding bytes indent spaces
 argument_by env i ty true = simp (render_cons, render_nil, append_assoc)
 argument_by env i ty false = simp (render_cons, render_nil, append_assoc)
 

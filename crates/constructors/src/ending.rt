@@ -2,25 +2,15 @@
 ghost use Rattle.std.specs.Prelude.{◌≡◌, false};
 ghost use Rattle.text.specs.Writes.{Writes};
 ghost use Rattle.codegen.specs.Terms.{ends_in_return};
-ghost use Rattle.plan.specs.Refusal.{is_return};
-ghost use Rattle.rows.specs.View.{block_of};
-ghost use Rattle.view.specs.Buffers.{words_of, env_of};
+ghost use Rattle.view.specs.Buffers.{env_of};
+ghost use Rattle.row_frames.specs.Rows.{rows_in};
 ghost use Rattle.sema.specs.Signature.{return_kind_told};
-ghost use Rattle.constructors.specs.Ending.{rows_in, last_text, end_text};
+ghost use Rattle.constructors.specs.Ending.{last_text, end_text};
 
 use sema::signature::ReturnKind;
 use sema::texts::{Text, put_quoted_text};
 use text::sink::Sink;
-use view::block::ControlFlow;
 use view::buffers::Plan;
-
-// Is row r a return?
-#[tactic(auto, using(crate::specs::Ending::return_made))]
-fn is_return(plan: &Plan<'_>, r: usize) -> bool
-    ensures { result ≡ is_return (block_of (words_of plan.now r)) }
-{
-    matches!(plan.control_flow_at(r), ControlFlow::Return { .. })
-}
 
 // Does the root, the rows of level 0 from row `first` up to row `last`, end in a return?
 pub fn ends_in_return(plan: &Plan<'_>, first: usize, last: usize) -> bool
@@ -29,7 +19,7 @@ pub fn ends_in_return(plan: &Plan<'_>, first: usize, last: usize) -> bool
     let mut returns = false;
     for r in first..last {
         if plan.word(r, 0) == 0 {
-            returns = is_return(plan, r);
+            returns = plan.is_return(r);
         }
     }
     returns

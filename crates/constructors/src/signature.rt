@@ -2,7 +2,7 @@
 ghost use Rattle.text.specs.Writes.{Writes};
 ghost use Rattle.view.specs.Buffers.{env_of};
 ghost use Rattle.sema.specs.Signature.{return_kind_told, sig_told};
-ghost use Rattle.constructors.specs.Lines.{head_text, reference_text, argument_text, arguments_text, result_text};
+ghost use Rattle.constructors.specs.Lines.{head_text, argument_text, arguments_text, result_text};
 
 use sema::signature::{ExternalSig, ReturnKind};
 use sema::texts::{Text, put_text};
@@ -21,16 +21,6 @@ pub fn put_head(w: &mut Sink<'_>, plan: &Plan<'_>, name: usize, sig: ExternalSig
     w.put_bytes(b"<C: Context>(\n    ctx: &mut C,\n");
 }
 
-// What stands before the type of an argument that is a reference.
-#[tactic(auto, using(text::specs::Writes::writes_nil), unfolding(crate::specs::Lines::reference_text))]
-fn put_reference(w: &mut Sink<'_>, is_ref: bool)
-    ensures { Writes (reference_text is_ref) w.old w.new }
-{
-    if is_ref {
-        w.put_bytes(b"&");
-    }
-}
-
 // An argument's line.
 fn put_argument(w: &mut Sink<'_>, plan: &Plan<'_>, i: usize, ty: TypeId)
     ensures { Writes (argument_text (env_of plan.now) i ty.0) w.old w.new }
@@ -38,8 +28,7 @@ fn put_argument(w: &mut Sink<'_>, plan: &Plan<'_>, i: usize, ty: TypeId)
     w.put_bytes(b"    arg");
     w.put_decimal(i as u64);
     w.put_bytes(b": ");
-    put_reference(w, ty.is_ref(plan));
-    ty.put_name(w, plan);
+    ty.put_param(w, plan);
     w.put_bytes(b",\n");
 }
 

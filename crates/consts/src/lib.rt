@@ -4,11 +4,11 @@
 pub mod pieces;
 
 ghost use Rattle.std.specs.Prelude.{◌≡◌, [], ◌∷◌, ℕ};
+ghost use Rattle.text.specs.Wide.{whole};
 ghost use Rattle.plan.specs.Plan.{Environment};
 ghost use Rattle.codegen.specs.Writer.{Marks, say};
 ghost use Rattle.codegen.specs.Expr.{emit_bool, emit_int};
 ghost use Rattle.view.specs.Buffers.{env_of};
-ghost use Rattle.view.specs.Told.{whole};
 ghost use Rattle.view.specs.declared.buffers.Plan.{Plan};
 ghost use Rattle.emits.specs.Runs.{Emits};
 
@@ -29,8 +29,9 @@ pub fn emit_bool(w: &mut Sink<'_>, val: bool)
 }
 
 // codegen.rs 1183: a value of the type, whatever the plan.
+#[tactic(auto, using(crate::proofs::Laws::emits_lit))]
 pub fn emit_int(w: &mut Sink<'_>, ty: TypeId, val: Wide)
-    ensures { (p : Plan) (d : ℕ) (q : Marks) → let env = env_of p in Emits env d (say (emit_int env ty.0 (whole val.high val.low) ∷ [])) w.old q w.new q }
+    ensures { (p : Plan) (d : ℕ) (q : Marks) → let env = env_of p in Emits env d (say (emit_int env ty.0 (whole val) ∷ [])) w.old q w.new q }
 {
     let int = ty.int_type();
     literal::literal::emit_int(w, int, val);

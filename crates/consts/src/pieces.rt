@@ -8,6 +8,7 @@ ghost use Rattle.codegen.specs.Piece.{indent};
 use text::sink::Sink;
 
 // `v` and the binding's number.
+#[tactic(auto, using(crate::proofs::Laws::writes_byte))]
 pub fn put_var(w: &mut Sink<'_>, binding: usize)
     ensures { Writes (codes "v" ++ decimal binding) w.old w.new }
 {
@@ -16,6 +17,7 @@ pub fn put_var(w: &mut Sink<'_>, binding: usize)
 }
 
 // A line feed, then an indentation of `more` steps beyond `depth`. More than a number can count have no room in any buffer.
+#[tactic(auto, using(crate::proofs::Laws::writes_byte), unfolding(codegen::specs::Piece::indent))]
 pub fn put_break(w: &mut Sink<'_>, depth: usize, more: usize)
     ensures { Writes (10 ∷ indent (depth + more)) w.old w.new }
 {

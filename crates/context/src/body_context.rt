@@ -1,7 +1,7 @@
 // `BodyContext` of codegen.rs 82: what changes while a term is written, and its steps over a lent state. What changes at each row,
 // `Nesting`, is a value of its own, with steps by value, as the walk over a block's rows calls them: a state with its marks is 2 KiB, and
 // is copied wherever it is passed. What is written where a block begins and ends is in `block`.
-ghost use Rattle.std.specs.Prelude.{◌≡◌, ◌<◌};
+ghost use Rattle.std.specs.Prelude.{◌≡◌, ◌+◌, ◌^◌, ◌<◌};
 ghost use Rattle.context.specs.Context.{New, deeper, shallower, counted};
 ghost use Rattle.context.specs.Steps.{Entered, begun, closed, Marked, Named, numbered};
 
@@ -28,7 +28,7 @@ pub struct BodyContext {
 impl Nesting {
     // codegen.rs 133.
     pub fn begin_block(self) -> Nesting
-        requires { self.depth < 4096 }
+        requires { self.depth + 1 < 2 ^ 64 }
         ensures { result ≡ deeper self }
     {
         Nesting {
@@ -50,7 +50,7 @@ impl Nesting {
 
     // codegen.rs 885: a closure has been numbered.
     pub fn count_split(self) -> Nesting
-        requires { self.match_split < 4294967296 }
+        requires { self.match_split + 1 < 2 ^ 64 }
         ensures { result ≡ counted self }
     {
         Nesting {
@@ -86,7 +86,7 @@ impl BodyContext {
 
     // codegen.rs 133.
     pub fn begin_block(&mut self)
-        requires { self.old.nesting.depth < 4096 }
+        requires { self.old.nesting.depth + 1 < 2 ^ 64 }
         ensures { self.new ≡ begun self.old }
     {
         *self = by_value::begin_block(*self);
@@ -116,7 +116,7 @@ impl BodyContext {
 
     // codegen.rs 885: a closure has been numbered.
     pub fn count_split(&mut self)
-        requires { self.old.nesting.match_split < 4294967296 }
+        requires { self.old.nesting.match_split + 1 < 2 ^ 64 }
         ensures { self.new ≡ numbered self.old }
     {
         *self = by_value::count_split(*self);

@@ -1,5 +1,5 @@
 // The steps over a whole state by value. Each calls the step that the walk over a block's rows calls.
-ghost use Rattle.std.specs.Prelude.{◌≡◌, ◌<◌};
+ghost use Rattle.std.specs.Prelude.{◌≡◌, ◌+◌, ◌^◌, ◌<◌};
 ghost use Rattle.emits.specs.Marks.{set_of};
 ghost use Rattle.context.specs.Context.{SetRef, deeper, shallower, counted};
 ghost use Rattle.context.specs.Steps.{Bind, altered};
@@ -14,7 +14,7 @@ pub fn enter_scope(state: BodyContext) -> [bool; 1024]
 }
 
 pub fn begin_block(state: BodyContext) -> BodyContext
-    requires { state.nesting.depth < 4096 }
+    requires { state.nesting.depth + 1 < 2 ^ 64 }
     ensures { result ≡ altered state state.is_bound (deeper state.nesting) }
 {
     let nesting = state.nesting.begin_block();
@@ -54,7 +54,7 @@ pub fn bind(state: BodyContext, binding: usize) -> BodyContext
 }
 
 pub fn count_split(state: BodyContext) -> BodyContext
-    requires { state.nesting.match_split < 4294967296 }
+    requires { state.nesting.match_split + 1 < 2 ^ 64 }
     ensures { result ≡ altered state state.is_bound (counted state.nesting) }
 {
     let nesting = state.nesting.count_split();

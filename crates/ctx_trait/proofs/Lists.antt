@@ -1,5 +1,5 @@
 -- The definition's lists from the middle on: their next part, and their end. Assumes nothing.
-use Rattle.std.specs.Prelude.{◌≡◌, ℕ, suc, ◌+◌, ◌<◌, ◌≤◌, true, false, List, [], ◌∷◌, ◌++◌, length, get_or, drop}
+use Rattle.std.specs.Prelude.{◌≡◌, ℕ, suc, ◌+◌, ◌<◌, ◌≤◌, Bool, true, false, cond, List, [], ◌∷◌, ◌++◌, length, get_or, drop}
 use mathlib.Core.Path.{refl, ap, ◌∙◌}
 use mathlib.Core.Path as Path
 use mathlib.Core.List.{append-nil, append_assoc}
@@ -7,15 +7,20 @@ use native.Mathlib.Omega.{arith}
 use native.Mathlib.Numerals.{add-one}
 use lib.ListN.{drop_of_length-le}
 use lib.Seq.{drop-cons}
+use Rattle.text.specs.Codes.{codes}
+use Rattle.text.specs.Writes.{Writes}
+use Rattle.text.specs.declared.sink.Sink.{Sink}
 use Rattle.plan.specs.Plan.{absent, Environment}
-use Rattle.plan.specs.Lookup.{term_at}
+use Rattle.plan.specs.Lookup.{type_at, term_at}
 use Rattle.view.specs.Buffers.{rows_of, env_of}
 use Rattle.view.specs.declared.buffers.Plan.{Plan}
 use Rattle.view.proofs.Plans.{terms_count}
-use Rattle.codegen.specs.Piece.{Piece, fix, num}
+use Rattle.codegen.specs.Piece.{Piece, fix, num, type, type_text, render, bytes}
 use Rattle.codegen.specs.ReturnKind.{by_return_kind}
-use Rattle.codegen.specs.Sema.{ExternalSig}
+use Rattle.codegen.specs.Sema.{is_ref, ExternalSig}
 use Rattle.codegen.specs.Items.{join, type_name, type_names, ret_tuple, sig_params, term_sigs}
+use Rattle.emits.specs.Sinks.{Shows, shows_text}
+use Rattle.sema.specs.Types.{param_text}
 use Rattle.ctx_trait.specs.Parts.{separator, joined, term_sig}
 
 -- JOINED LISTS
@@ -35,6 +40,14 @@ unfolding joined
 joined_last i ps = ap (λ (l : List Piece). separator i ++ l) (append-nil ps)
 
 -- SIGNATURES
+
+-- a parameter's type
+pub shows_param : {env : Environment} {d : ℕ} (n : ℕ) {w w' : Sink} → Writes (param_text env n) w w' → Shows env d (type_name env true n) w w'
+unfolding type_name render bytes
+shows_param {env} {d} n {w} {w'} p = by_ref (is_ref env n) p where
+  by_ref : (b : Bool) → Writes (cond b (codes "&") [] ++ type_text env (type_at env n)) w w' → Shows env d (cond b (fix "&" refl ∷ type n ∷ []) (type n ∷ [])) w w'
+  by_ref true q = shows_text (rw append-nil q)
+  by_ref false q = shows_text (rw append-nil q)
 
 module _ (env : Environment) (l : List ℕ) where
   module _ (i : ℕ) where

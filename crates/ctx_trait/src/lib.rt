@@ -20,14 +20,15 @@ use view::environment::FunctionKind;
 use view::tables::TERMS;
 
 // `type_name` of codegen.rs 506.
-#[tactic(auto, using(crate::specs::Shown::shown), unfolding(codegen::specs::Items::type_name))]
+#[tactic(auto, using(crate::specs::Shown::shown, crate::proofs::Lists::shows_param), unfolding(codegen::specs::Items::type_name))]
 pub fn type_name(w: &mut Sink<'_>, plan: &Plan<'_>, by_ref: bool, ty: TypeId)
     ensures { let env = env_of plan.now in (d : ℕ) → Shows env d (type_name env by_ref ty.0) w.old w.new }
 {
-    if by_ref && ty.is_ref(plan) {
-        w.put_bytes(b"&");
+    if by_ref {
+        ty.put_param(w, plan);
+    } else {
+        ty.put_name(w, plan);
     }
-    ty.put_name(w, plan);
 }
 
 // What stands before the part i of a list.

@@ -16,12 +16,11 @@ use Rattle.codegen.specs.AnswerLaws.{Judged, turned_away, taken, judged_outcome}
 use Rattle.splitting.specs.Cases.{false_true}
 use Rattle.splitting.specs.Accepted.{accepted_read}
 use Rattle.refusal.specs.Number.{number}
-use Rattle.refusal.specs.declared.Refusal.{Refusal}
 use Rattle.emitter.specs.declared.Form.{Form}
 use Rattle.emitter.specs.declared.Form.TheVariants.{Whole, Terms, Items}
 use Rattle.emitter.specs.Answered.{Emitted, Answers, items_answer}
-use Rattle.emitter.specs.Held.{form_text, form_count, answer_with, answer_in}
-use Rattle.emitter.specs.EntryLaws.{form_le, whole_is, terms_is, items_is}
+use Rattle.emitter.specs.Held.{form_text, form_count, form_answer, answer_with, answer_in}
+use Rattle.emitter.specs.EntryLaws.{form_le, form_is}
 use Rattle.demands.specs.Checks.{checks, first_failing, all_pass, first_to_fail, number_given, first_check}
 use Rattle.demands.specs.Demand1.{TextOrRefusal, refusal, text, items_text}
 
@@ -42,9 +41,9 @@ module _ (f : Form) (plan before : List ℕ) where
   writing p e g h (Err m) q = false_true q.written
   writing p e g h (Ok t) q = rw (q.bytes, q.length, q.count) (text p (accepted_read plan p e) e (all_pass list g) h (form_le f p))
 
-  text_or_refusal : (r : Emitted) {after : List ℕ} → Answers (answer_in f (length before) (outcome plan)) r before after → Demanded r after
+  text_or_refusal : (r : Emitted) {after : List ℕ} → Answers (form_answer f plan (length before)) r before after → Demanded r after
   unfolding answer_in answer_with number_given
-  text_or_refusal r {after} = by_outcome (judged_outcome plan) refl (sym (first_check (form_text f) (length before) plan))
+  text_or_refusal r {after} q = by_outcome (judged_outcome plan) refl (sym (first_check (form_text f) (length before) plan)) (rw (form_is f plan (length before)) q)
     where
       by_room : (p : Plan) → outcome plan ≡ accepted p → (b : Bool) → leb (length (form_text f p)) (length before) ≡ b → first_failing 0 list ≡ cond b 0 11
           → Answers (cond b (record { number = 0; length = length (form_text f p); count = form_count f p; text = form_text f p }) (refuse 11)) r before after → Demanded r after
@@ -56,10 +55,10 @@ module _ (f : Form) (plan before : List ℕ) where
       by_outcome (taken p) e w q = by_room p e (leb (length (form_text f p)) (length before)) refl w q
 
 pub demand_1 : (plan before : List ℕ) {r : Emitted} {after : List ℕ} → Answers (answer plan (length before)) r before after → TextOrRefusal whole_text odds plan before r after
-demand_1 plan before {r} q = text_or_refusal Whole plan before r (rw (whole_is plan (length before)) q)
+demand_1 plan before {r} q = text_or_refusal Whole plan before r q
 
 pub demand_1_terms : (plan before : List ℕ) {r : Emitted} {after : List ℕ} → Answers (terms_answer plan (length before)) r before after → TextOrRefusal terms_text odds plan before r after
-demand_1_terms plan before {r} q = text_or_refusal Terms plan before r (rw (terms_is plan (length before)) q)
+demand_1_terms plan before {r} q = text_or_refusal Terms plan before r q
 
 pub demand_1_items : (plan before : List ℕ) {r : Emitted} {after : List ℕ} → Answers (items_answer plan (length before)) r before after → TextOrRefusal items_text (λ p. 0) plan before r after
-demand_1_items plan before {r} q = text_or_refusal Items plan before r (rw (items_is plan (length before)) q)
+demand_1_items plan before {r} q = text_or_refusal Items plan before r q

@@ -1,7 +1,7 @@
 -- The three demands, of the C functions `rizhavel_whole`, `rizhavel_terms` and `rizhavel_items` (emitter_c/src/lib.rt). Their contracts
 -- say `Exports (answer plan (length before)) n before after told told'`, or the same with `terms_answer` or `items_answer`, of the number n
 -- that is returned, the buffer before and after, and the lent slice of numbers before and after, however short. Assumes nothing.
-use Rattle.std.specs.Prelude.{ℕ, zero, suc, ◌≤◌, ◌≡◌, refl, Bool, true, false, cond, List, [], ◌∷◌, ◌<◌, ◌+◌, leb, length, get_or, take, Ok, Err}
+use Rattle.std.specs.Prelude.{ℕ, zero, suc, ◌≤◌, ◌≡◌, refl, Bool, true, false, cond, List, [], ◌∷◌, ◌<◌, leb, length, get_or, take, Ok, Err}
 use Rattle.std.proofs.Common.{sym, ◌∙◌, arith, ne_eqb}
 use Rattle.std.proofs.Math.Option.{some}
 use Rattle.std.proofs.lemmas.List.Edits.{sets}

@@ -19,8 +19,8 @@ use Rattle.view.specs.Buffers.{rows_of, env_of, plan_of}
 use Rattle.view.specs.declared.buffers.Plan as buffers
 use Rattle.view.specs.Told.{fields_told, type_told}
 use Rattle.view.specs.declared.environment.TypeData.{TypeData}
-use Rattle.view.specs.declared.environment.Shape.{Shape}
-use Rattle.view.specs.declared.environment.Shape.TheVariants as shape
+use Rattle.rows.specs.declared.kinds.Shape.{Shape}
+use Rattle.rows.specs.declared.kinds.Shape.TheVariants as shape
 use Rattle.view.proofs.Plans.{table_of, files_count, types_count, types_are}
 use Rattle.codegen.specs.Piece.{Piece, fix, file, sym, type, break}
 use Rattle.codegen.specs.Sema.{field_name, field_type}

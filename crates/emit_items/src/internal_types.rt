@@ -13,12 +13,13 @@ ghost use Rattle.emit_items.specs.Parts.{depth, field_start, named_field, tuple_
 
 use ctx_trait::put_separator;
 use literal::builtin_type::BuiltinType;
+use rows::kinds::Shape;
 use sema::fields::Fields;
 use sema::texts::{Text, put_text};
 use sema::types::TypeId;
 use text::sink::Sink;
 use view::buffers::Plan;
-use view::environment::{Declared, Shape, TypeData};
+use view::environment::{Declared, TypeData};
 use view::tables::TYPES;
 
 // The fields of a struct may be `pub`; those of a variant stand one step deeper. What stands before and after fields, and named and tuple
@@ -34,38 +35,38 @@ fn field_start(w: &mut Sink<'_>, allow: bool)
     }
 }
 
-fn named_field(w: &mut Sink<'_>, plan: &Plan<'_>, allow: bool, f: Fields, i: usize)
-    ensures { Shows (env_of plan.now) 0 (named_field allow (fields_read plan.now f) i) w.old w.new }
+fn named_field(w: &mut Sink<'_>, plan: &Plan<'_>, allow: bool, f: &Fields<'_>, i: usize)
+    ensures { Shows (env_of plan.now) 0 (named_field allow (fields_read f.now) i) w.old w.new }
 {
     field_start(w, allow);
     f.put_name(w, plan, i);
     w.put_bytes(b": ");
-    f.ty(plan, i).put_name(w, plan);
+    f.ty(i).put_name(w, plan);
     w.put_bytes(b",");
 }
 
-fn named_fields(w: &mut Sink<'_>, plan: &Plan<'_>, allow: bool, f: Fields)
-    ensures { (fs : List Field) → fields_read plan.now f ≡ named fs → Shows (env_of plan.now) 0 (named_fields allow (suc (depth allow)) fs) w.old w.new }
+fn named_fields(w: &mut Sink<'_>, plan: &Plan<'_>, allow: bool, f: &Fields<'_>)
+    ensures { (fs : List Field) → fields_read f.now ≡ named fs → Shows (env_of plan.now) 0 (named_fields allow (suc (depth allow)) fs) w.old w.new }
 {
-    for i in 0..f.count(plan) {
+    for i in 0..f.count() {
         named_field(w, plan, allow, f, i);
     }
 }
 
-fn tuple_field(w: &mut Sink<'_>, plan: &Plan<'_>, allow: bool, f: Fields, i: usize)
-    ensures { Shows (env_of plan.now) 0 (tuple_field allow (fields_read plan.now f) i) w.old w.new }
+fn tuple_field(w: &mut Sink<'_>, plan: &Plan<'_>, allow: bool, f: &Fields<'_>, i: usize)
+    ensures { Shows (env_of plan.now) 0 (tuple_field allow (fields_read f.now) i) w.old w.new }
 {
     put_separator(w, i);
     if allow {
         w.put_bytes(b"pub ");
     }
-    f.ty(plan, i).put_name(w, plan);
+    f.ty(i).put_name(w, plan);
 }
 
-fn tuple_fields(w: &mut Sink<'_>, plan: &Plan<'_>, allow: bool, f: Fields)
-    ensures { (ns : List ℕ) → fields_read plan.now f ≡ tuple ns → Shows (env_of plan.now) 0 (join (tuple_fields allow ns)) w.old w.new }
+fn tuple_fields(w: &mut Sink<'_>, plan: &Plan<'_>, allow: bool, f: &Fields<'_>)
+    ensures { (ns : List ℕ) → fields_read f.now ≡ tuple ns → Shows (env_of plan.now) 0 (join (tuple_fields allow ns)) w.old w.new }
 {
-    for i in 0..f.count(plan) {
+    for i in 0..f.count() {
         tuple_field(w, plan, allow, f, i);
     }
 }
@@ -82,8 +83,8 @@ fn fields_end(w: &mut Sink<'_>, allow: bool)
 }
 
 // `generate_fields` of codegen.rs 473.
-fn generate_fields(w: &mut Sink<'_>, plan: &Plan<'_>, allow: bool, f: Fields)
-    ensures { Shows (env_of plan.now) 0 (generate_fields allow (depth allow) (fields_read plan.now f)) w.old w.new }
+fn generate_fields(w: &mut Sink<'_>, plan: &Plan<'_>, allow: bool, f: &Fields<'_>)
+    ensures { Shows (env_of plan.now) 0 (generate_fields allow (depth allow) (fields_read f.now)) w.old w.new }
 {
     match f.shape {
         Shape::Unit => {}
@@ -141,7 +142,7 @@ fn variant_line(w: &mut Sink<'_>, plan: &Plan<'_>, ty: TypeId, k: usize)
     let v = ty.variant(plan, k);
     w.put_bytes(b"\n    ");
     put_text(w, plan, Text::Sym, v.name);
-    generate_fields(w, plan, false, v.fields);
+    generate_fields(w, plan, false, &v.fields);
     w.put_bytes(b",");
 }
 
@@ -176,8 +177,8 @@ fn struct_end(w: &mut Sink<'_>, s: Shape)
     }
 }
 
-fn struct_type(w: &mut Sink<'_>, plan: &Plan<'_>, d: Declared, f: Fields)
-    ensures { Shows (env_of plan.now) 0 (struct_type (declared_told d) (fields_read plan.now f)) w.old w.new }
+fn struct_type(w: &mut Sink<'_>, plan: &Plan<'_>, d: Declared, f: &Fields<'_>)
+    ensures { Shows (env_of plan.now) 0 (struct_type (declared_told d) (fields_read f.now)) w.old w.new }
 {
     type_head(w, plan, d, matches!(f.shape, Shape::Unit));
     w.put_bytes(b"pub struct ");
@@ -190,16 +191,21 @@ fn struct_type(w: &mut Sink<'_>, plan: &Plan<'_>, d: Declared, f: Fields)
 fn internal_type(w: &mut Sink<'_>, plan: &Plan<'_>, ty: TypeId)
     ensures { VariantsIndexed plan.now → let env = env_of plan.now in Shows env 0 (internal_type env ty.0 (type_at env ty.0)) w.old w.new }
 {
-    match ty.data(plan).ty {
+    let data = ty.data(plan);
+    match data.ty {
         TypeData::Builtin(_) | TypeData::Primitive(_) => {}
         TypeData::Enum(d) => {
             if !d.is_extern {
                 enum_type(w, plan, d, ty);
             }
         }
-        TypeData::Struct(d, _) => {
+        TypeData::Struct(d, shape) => {
             if !d.is_extern {
-                struct_type(w, plan, d, ty.fields(plan));
+                let fields = Fields {
+                    shape,
+                    list: data.list,
+                };
+                struct_type(w, plan, d, &fields);
             }
         }
     }

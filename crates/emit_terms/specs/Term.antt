@@ -1,6 +1,6 @@
 -- A generated term in the buffers, and its parts one after the other. Assumes nothing.
 use Rattle.std.specs.Prelude as code
-use Rattle.std.specs.Prelude.{ℕ, ◌+◌, ◌≤◌, ◌<◌, ◌≡◌, refl, Bool, true, false, cond, ◌&&◌, List, [], ◌++◌, length, get_or, ltb, Some, None}
+use Rattle.std.specs.Prelude.{ℕ, ◌+◌, ◌*◌, ◌≤◌, ◌<◌, ◌≡◌, refl, Bool, true, false, cond, ◌&&◌, List, [], ◌∷◌, ◌++◌, length, get_or, ltb, Some, None}
 use Rattle.std.proofs.Common.{sym, ap, ◌∙◌, arith, ltb-true, ltb-false}
 use Rattle.text.specs.Writes.{Writes, writes_nil, writes_then}
 use Rattle.text.specs.declared.sink.Sink.{Sink}
@@ -19,7 +19,7 @@ use Rattle.codegen.specs.Terms.{argument_refs, signature, ends_in_return, term_e
 use Rattle.rows.specs.View.{nth, flagged, term_of, options_of, block_of}
 use Rattle.layout.specs.View.{plan_of_tables}
 use Rattle.view.specs.Tables.{table_rows, generated_at, generated_from, plan_in}
-use Rattle.view.specs.Buffers.{words_of, rows_of, env_of, generated_in, plan_of}
+use Rattle.view.specs.Buffers.{words_of, rows_of, env_of, bindings_in, plan_of}
 use Rattle.view.specs.declared.buffers.Plan.{Plan}
 use Rattle.view.proofs.Plans.{table_of, term_is, generated_is, generated_next, generated_none, environment_is}
 use Rattle.splitting.specs.Marks.{with_refs}
@@ -33,19 +33,22 @@ use Rattle.context.specs.Context.{New, SameButRefs}
 use Rattle.context.specs.declared.body_context.BodyContext.{BodyContext}
 use Rattle.constructors.specs.Lines.{head_text, arguments_text, result_text, signature_is, signature_odds}
 use Rattle.constructors.specs.Ending.{end_text, end_is, end_odds}
-use Rattle.constructors.specs.Arguments.{bindings_in}
+use Rattle.constructors.specs.Arguments as argument
 use Rattle.schedule_rules.specs.Passes.{Each, every_each}
+use Rattle.checks.specs.Tests.{tables_at, generated_of}
+use Rattle.checks.specs.declared.tables.GeneratedTables.{GeneratedTables}
 use Rattle.checks.proofs.Every.{every_map, every_same}
+use Rattle.checks.proofs.Tests.{terms_count}
 use Rattle.row_frames.specs.Rows.{rows_from, Shallow, shallow_rows}
 use Rattle.view.specs.BlockRows.{level_is}
-use Rattle.body.specs.Told.{env_in, rows_in, body_told, splits_above}
+use Rattle.body.specs.Told.{env_in, bindings_of, rows_in, body_told, splits_above}
 use Rattle.body.specs.Walks.{WritesParts, parts_then, parts_text, WritesWalk}
 use Rattle.body.specs.declared.Body.{Body}
 use Rattle.blocks.specs.Middle.{standing}
 use Rattle.blocks.specs.Row.{Splitting}
 use Rattle.blocks.specs.Loop.{BlockWritten}
 use Rattle.emit_terms.specs.Accepted.{TermFits, PlanFits}
-use Rattle.emit_terms.specs.Told.{OptionsTold, Started, below_eight, term_in, BodyWritten}
+use Rattle.emit_terms.specs.Told.{OptionsTold, Started, below_eight, block_in, term_in, BodyWritten}
 use Rattle.emit_terms.specs.declared.options.Options.{Options}
 
 -- THE OPTIONS in the buffers
@@ -70,23 +73,19 @@ walk_parts {env} {c} {sp} {s} {i} {rs} {w} {q} {w'} x = record { buffer = x.buff
 -- A TERM IN THE BUFFERS
 
 module _ (p : Plan) (t : ℕ) {first last : ℕ} where
-  pub bindings_are : first ≡ get_or p.tables.now (t + 1) 0 → last ≡ get_or p.tables.now (t + 1 + 1) 0 → bindings_in p last first ≡ (generated_in p t).bindings
-  unfolding generated_at table_rows
+  bindings_are : first ≡ get_or p.tables.now t 0 → last ≡ get_or p.tables.now (t + 1) 0 → argument.bindings_in p last first ≡ bindings_in p t
+  unfolding table_rows
   bindings_are h g = rw (h, g)
 
-  pub rows_are : first ≡ get_or p.tables.now (t + 2) 0 → last ≡ get_or p.tables.now (t + 2 + 1) 0 → rows_from p.words.now p.rows.now last first ≡ (generated_in p t).rows
-  unfolding generated_at table_rows
+  pub rows_are : first ≡ get_or p.tables.now t 0 → last ≡ get_or p.tables.now (t + 1) 0 → rows_from p.words.now p.rows.now last first ≡ block_in p t
+  unfolding table_rows
   rows_are h g = rw (h, g)
 
-  pub started : {sig : ExternalSig} {new context : BodyContext} → New new → SameButRefs new context → first ≡ get_or p.tables.now (t + 1) 0 → last ≡ get_or p.tables.now (t + 1 + 1) 0
-      → set_of context.is_ref ≡ argument_refs (env_of p) (bindings_in p last first) 0 (sig_told (env_of p) sig).param_tys (set_of new.is_ref) → Started p t sig context
+  pub started : {sig : ExternalSig} {new context : BodyContext} → New new → SameButRefs new context → first ≡ get_or p.tables.now t 0 → last ≡ get_or p.tables.now (t + 1) 0
+      → set_of context.is_ref ≡ argument_refs (env_of p) (argument.bindings_in p last first) 0 (sig_told (env_of p) sig).param_tys (set_of new.is_ref) → Started p t sig context
   started n m a b r = record { refs = r ∙ rw (bindings_are a b, n.refs); bound = ap set_of m.bound ∙ n.bound; nesting = m.nesting ∙ n.nesting }
 
--- the term of a generated term, and the words of a term's row
-pub term_is_this : (p : Plan) (t : ℕ) {n : ℕ} → n ≡ nth (get_or (rows_of p t) 0 []) 0 → n ≡ (generated_in p t).term
-unfolding generated_at
-term_is_this p t h = h
-
+-- the words of a term's row
 module _ (p : Plan) (n : ℕ) where
   pub term_name : nth (get_or (rows_of p 6) n []) 0 ≡ (term_at (env_of p) n).name
   unfolding term_of
@@ -97,9 +96,8 @@ module _ (p : Plan) (n : ℕ) where
   term_pos = ap (λ (m : Term). m.pos) (sym (term_is p.words.now p.rows.now p.tables.now p.bytes.now n))
 
 -- the levels in the words of the rows
-pub few_rows : (p : Plan) (t : ℕ) → every below_eight (generated_in p t).rows ≡ every (λ ws. ltb (nth ws 0) 8) (rows_of p (t + 2))
-unfolding generated_at
-few_rows p t = every_map below_eight block_of (rows_of p (t + 2)) ∙ every_same _ _ (λ ws. ap (λ (l : ℕ). ltb l 8) (level_is ws)) (rows_of p (t + 2))
+pub few_rows : (p : Plan) (t : ℕ) → every below_eight (block_in p t) ≡ every (λ ws. ltb (nth ws 0) 8) (rows_of p t)
+few_rows p t = every_map below_eight block_of (rows_of p t) ∙ every_same _ _ (λ ws. ap (λ (l : ℕ). ltb l 8) (level_is ws)) (rows_of p t)
 
 -- THE BLOCK, with a place more than its levels
 
@@ -107,21 +105,21 @@ arguments_are : (x : sema.ExternalSig) (m : Term) → x ≡ constructor_sig m �
 unfolding constructor_sig
 arguments_are x m h = ap (λ (x : sema.ExternalSig). x.param_tys) h
 
-module _ {b : Body} {sig : ExternalSig} {s : BodyContext} {first last : ℕ} {w w' : Sink} (st : Started b.plan.now b.t sig s) (q : rows_in b last first ≡ (term_in b).rows) where
-  body_written : (m : ℕ) → m ≤ 64 → (TermFits (term_in b) → Each (λ r. level r < m) (term_in b).rows) → BlockWritten b first last (m + 1) s.is_ref s.is_bound w w' → BodyWritten b sig w w'
+module _ {b : Body} {block : ℕ} {sig : ExternalSig} {s : BodyContext} {first last : ℕ} {w w' : Sink} (st : Started b.plan.now b.bindings sig s) (q : rows_in b last first ≡ block_in b.plan.now block) where
+  body_written : (m : ℕ) → m ≤ 64 → (Each (λ r. level r < 64) (block_in b.plan.now block) → Each (λ r. level r < m) (block_in b.plan.now block)) → BlockWritten b first last (m + 1) s.is_ref s.is_bound w w' → BodyWritten b block sig w w'
   unfolding start with_refs standing
   body_written m u e x = record {
-    is = λ sp v f y h.
-        let shallow : Shallow b.plan.now.words.now b.plan.now.rows.now first last (m + 1) = shallow_rows _ _ first last m u (rw q (e f)) in
-        let refs : set_of s.is_ref ≡ argument_refs (env_in b) (term_in b).bindings 0 (term_at (env_in b) (term_in b).term).arg_tys no_marks = st.refs ∙ ap (λ (ts : List ℕ). argument_refs (env_in b) (term_in b).bindings 0 ts no_marks) (arguments_are _ _ h) in
+    is = λ sp n v f y h.
+        let shallow : Shallow b.plan.now.words.now b.plan.now.rows.now first last (m + 1) = shallow_rows _ _ first last m u (rw q (e f.shallow)) in
+        let refs : set_of s.is_ref ≡ argument_refs (env_in b) (bindings_of b) 0 (term_at (env_in b) n).arg_tys no_marks = st.refs ∙ ap (λ (ts : List ℕ). argument_refs (env_in b) (bindings_of b) 0 ts no_marks) (arguments_are _ _ h) in
         walk_parts (rw (q, st.bound, refs) at (x.is sp (record { indexed = v; lower = f.lower }) y shallow));
   }
 
-  pub few_written : every below_eight (term_in b).rows ≡ true → BlockWritten b first last 9 s.is_ref s.is_bound w w' → BodyWritten b sig w w'
-  few_written t = body_written 8 (omega arith) (λ f. every_each below_eight (λ r. level r < 8) (λ r. ltb-true (level r) 8) (term_in b).rows t)
+  pub few_written : every below_eight (block_in b.plan.now block) ≡ true → BlockWritten b first last 9 s.is_ref s.is_bound w w' → BodyWritten b block sig w w'
+  few_written t = body_written 8 (omega arith) (λ f. every_each below_eight (λ r. level r < 8) (λ r. ltb-true (level r) 8) (block_in b.plan.now block) t)
 
-  pub all_written : BlockWritten b first last 65 s.is_ref s.is_bound w w' → BodyWritten b sig w w'
-  all_written = body_written 64 (omega arith) (λ f. f.shallow)
+  pub all_written : BlockWritten b first last 65 s.is_ref s.is_bound w w' → BodyWritten b block sig w w'
+  all_written = body_written 64 (omega arith) (λ f. f)
 
 -- THE PARTS OF A TERM
 
@@ -152,49 +150,59 @@ splits_by Option false n w = refl
 splits_by Plain true n w = refl
 splits_by Plain false n w = refl
 
-module _ {o : plan.Options} {x : Options} (u : OptionsTold o x) (b : Body) (sig : ExternalSig) (q : sig_told (env_in b) sig ≡ constructor_sig (term_at (env_in b) (term_in b).term)) (k : b.ret_kind ≡ sig.ret_kind) where
-  kind_is : return_kind_told b.ret_kind ≡ (constructor_sig (term_at (env_in b) (term_in b).term)).ret_kind
+module _ {o : plan.Options} {x : Options} (u : OptionsTold o x) (b : Body) (n block : ℕ) (sig : ExternalSig) (q : sig_told (env_in b) sig ≡ constructor_sig (term_at (env_in b) n)) (k : b.ret_kind ≡ sig.ret_kind) where
+  kind_is : return_kind_told b.ret_kind ≡ (constructor_sig (term_at (env_in b) n)).ret_kind
   kind_is = ap return_kind_told k ∙ ap (λ (y : sema.ExternalSig). y.ret_kind) q
 
-  told_body : b.log ≡ x.log → b.term_name ≡ (term_at (env_in b) (term_in b).term).name → body_told b ≡ body_of o (env_in b) (term_in b)
+  told_body : b.log ≡ x.log → b.term_name ≡ (term_at (env_in b) n).name → body_told b ≡ body_of o (env_in b) (term_in b n block)
   unfolding body_of
-  told_body l n = rw (kind_is, l, ← u.logs, n) refl
+  told_body l m = rw (kind_is, l, ← u.logs, m) refl
 
-  splitting : b.threshold ≡ by_return_kind (return_kind_told sig.ret_kind) x.threshold None None → Splitting (splits o (env_in b) (term_in b)) b.threshold
+  splitting : b.threshold ≡ by_return_kind (return_kind_told sig.ret_kind) x.threshold None None → Splitting (splits o (env_in b) (term_in b n block)) b.threshold
   unfolding splits
   splitting h = record { is = λ w. rw (h, ← u.above, ← kind_is, k) (splits_by _ o.split o.threshold w) }
 
   -- the signature, the block, the last lines
-  pub term_written : {w w₁ w₂ w₃ : Sink} → b.log ≡ x.log → b.term_name ≡ (term_at (env_in b) (term_in b).term).name → b.threshold ≡ by_return_kind (return_kind_told sig.ret_kind) x.threshold None None
-      → VariantsIndexed b.plan.now → TermFits (term_in b)
-      → Writes (text_of (env_in b) (signature (env_in b) (term_at (env_in b) (term_in b).term))) w w₁ → BodyWritten b sig w₁ w₂
-      → ((constructor_sig (term_at (env_in b) (term_in b).term)).ret_kind ≡ return_kind_told b.ret_kind → b.term_name ≡ (term_at (env_in b) (term_in b).term).name → Writes (text_of (env_in b) (term_end (term_at (env_in b) (term_in b).term) (term_in b).rows)) w₂ w₃)
-      → WritesParts (env_in b) (term_parts o (env_in b) (term_in b)) w w₃
+  pub term_written : {w w₁ w₂ w₃ : Sink} → b.log ≡ x.log → b.term_name ≡ (term_at (env_in b) n).name → b.threshold ≡ by_return_kind (return_kind_told sig.ret_kind) x.threshold None None
+      → VariantsIndexed b.plan.now → TermFits (term_in b n block)
+      → Writes (text_of (env_in b) (signature (env_in b) (term_at (env_in b) n))) w w₁ → BodyWritten b block sig w₁ w₂
+      → ((constructor_sig (term_at (env_in b) n)).ret_kind ≡ return_kind_told b.ret_kind → b.term_name ≡ (term_at (env_in b) n).name → Writes (text_of (env_in b) (term_end (term_at (env_in b) n) (block_in b.plan.now block))) w₂ w₃)
+      → WritesParts (env_in b) (term_parts o (env_in b) (term_in b n block)) w w₃
   unfolding term_parts
-  term_written l n h v f y z e =
+  term_written l m h v f y z e =
       parts_then (parts_text (signature_odds (env_in b) _) y)
-      (parts_then (rw (told_body l n) at (z.is (splits o (env_in b) (term_in b)) v f (splitting h) q)) (parts_text (end_odds _ (term_in b).rows) (e (sym kind_is) n)))
+      (parts_then (rw (told_body l m) at (z.is (splits o (env_in b) (term_in b n block)) n v f (splitting h) q)) (parts_text (end_odds _ (block_in b.plan.now block)) (e (sym kind_is) m)))
 
--- THE LOOP over the terms: what is left to write, from the term of table t on, ends where the whole does
+-- the generated terms from number i on
+abbrev terms_from : Plan → ℕ → List Generated
+terms_from p i = generated_from p.words.now p.rows.now p.tables.now (7 + 3 * i)
 
-pub record TermsLeft (p : Plan) (w₀ : Sink) (t : ℕ) (w : Sink) : Type 0 where
-  pub fits : Each TermFits (generated_from p.words.now p.rows.now p.tables.now t)
-  pub ends : (w' : Sink) → WritesParts (env_of p) (all_parts (plan_of p).options (env_of p) (generated_from p.words.now p.rows.now p.tables.now t)) w w' → WritesParts (env_of p) (parts (plan_of p)) w₀ w'
+terms_here : (p : Plan) (i : ℕ) (g : GeneratedTables) → g ≡ tables_at i → i < length (plan_of p).generated → terms_from p i ≡ generated_of p g ∷ terms_from p (i + 1)
+unfolding generated_at
+terms_here p i g at h =
+    let z : 7 + 3 * i + 3 ≡ 7 + 3 * (i + 1) = omega arith in
+    rw (at, generated_next p.words.now p.rows.now p.tables.now (7 + 3 * i) (omega (arith, terms_count p)), z) refl
+
+-- THE LOOP over the terms: what is left to write, from term i on, ends where the whole does
+
+pub record TermsLeft (p : Plan) (w₀ : Sink) (i : ℕ) (w : Sink) : Type 0 where
+  pub fits : Each TermFits (terms_from p i)
+  pub ends : (w' : Sink) → WritesParts (env_of p) (all_parts (plan_of p).options (env_of p) (terms_from p i)) w w' → WritesParts (env_of p) (parts (plan_of p)) w₀ w'
 
 module _ {p : Plan} {w₀ : Sink} where
-  pub terms_start : PlanFits (plan_of p) → TermsLeft p w₀ 7 w₀
+  pub terms_start : PlanFits (plan_of p) → TermsLeft p w₀ 0 w₀
   terms_start f =
       let g = generated_is p.words.now p.rows.now p.tables.now p.bytes.now in
       record { fits = rw g at f.terms; ends = λ w' x. rw (g, environment_is p.words.now p.rows.now p.tables.now p.bytes.now) x }
 
-  module _ {t : ℕ} {w : Sink} (l : TermsLeft p w₀ t w) where
-    pub terms_next : {w' : Sink} → t + 3 < length p.tables.now → (TermFits (generated_in p t) → WritesParts (env_of p) (term_parts (plan_of p).options (env_of p) (generated_in p t)) w w') → TermsLeft p w₀ (t + 3) w'
+  module _ {i : ℕ} {w : Sink} (l : TermsLeft p w₀ i w) where
+    pub terms_next : {w' : Sink} {g : GeneratedTables} → i < length (plan_of p).generated → g ≡ tables_at i → (TermFits (generated_of p g) → WritesParts (env_of p) (term_parts (plan_of p).options (env_of p) (generated_of p g)) w w') → TermsLeft p w₀ (i + 1) w'
     unfolding all_parts
-    terms_next h x =
-        let next = generated_next p.words.now p.rows.now p.tables.now t h in
+    terms_next {g = g} h at x =
+        let next : terms_from p i ≡ generated_of p g ∷ terms_from p (i + 1) = terms_here p i g at h in
         let f = rw next at l.fits in
         record { fits = f.1; ends = λ w₂ y. l.ends w₂ (rw next (parts_then (x f.0) y)) }
 
-    pub terms_done : length p.tables.now ≤ t + 3 → WritesParts (env_of p) (parts (plan_of p)) w₀ w
+    pub terms_done : length (plan_of p).generated ≤ i → WritesParts (env_of p) (parts (plan_of p)) w₀ w
     unfolding all_parts odds_of text_of
-    terms_done h = l.ends w (rw (generated_none p.words.now p.rows.now p.tables.now t h) (parts_text refl writes_nil))
+    terms_done h = l.ends w (rw (generated_none p.words.now p.rows.now p.tables.now (7 + 3 * i) (omega (arith, terms_count p))) (parts_text refl writes_nil))

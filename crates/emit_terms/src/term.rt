@@ -1,5 +1,5 @@
 // Whole terms, one after the other.
-ghost use Rattle.std.specs.Prelude.{◌≡◌, ℕ, [], ◌+◌, ◌<◌, length, get_or};
+ghost use Rattle.std.specs.Prelude.{◌≡◌, ℕ, [], get_or};
 ghost use Rattle.text.specs.Writes.{Writes};
 ghost use Rattle.plan.specs.Plan as definition;
 ghost use Rattle.plan.specs.Lookup.{term_at};
@@ -7,24 +7,25 @@ ghost use Rattle.codegen.specs.Sema.{constructor_sig};
 ghost use Rattle.codegen.specs.Block.{text_of};
 ghost use Rattle.codegen.specs.Terms.{signature, term_end, term_parts, parts};
 ghost use Rattle.rows.specs.View.{nth};
-ghost use Rattle.view.specs.Buffers.{rows_of, env_of, generated_in, plan_of};
+ghost use Rattle.view.specs.Buffers.{rows_of, env_of, plan_of};
+ghost use Rattle.checks.specs.Tests.{generated_of};
 ghost use Rattle.sema.specs.Holds.{VariantsIndexed};
 ghost use Rattle.sema.specs.Signature.{return_kind_told, sig_told};
 ghost use Rattle.body.specs.Told.{env_in};
 ghost use Rattle.body.specs.Walks.{WritesParts};
 ghost use Rattle.emit_terms.specs.Accepted.{TermFits, PlanFits};
-ghost use Rattle.emit_terms.specs.Told.{OptionsTold, term_in};
+ghost use Rattle.emit_terms.specs.Told.{OptionsTold, block_in};
 
 use super::block::{block_rows, emit_body};
 use super::options::Options;
 use body::Body;
-use checks::tables::generated_count;
+use checks::tables::{GeneratedTables, generated_count, generated_tables};
 use constructors::ending::{ends_in_return, put_end};
 use constructors::signature::{put_arguments, put_head, put_result};
 use sema::signature::{ExternalSig, TermId};
 use text::sink::Sink;
 use view::buffers::Plan;
-use view::tables::{GENERATED, TERMS};
+use view::tables::TERMS;
 
 // The word k of row n of table t.
 fn table_word(plan: &Plan<'_>, t: usize, n: usize, k: usize) -> usize
@@ -42,47 +43,44 @@ pub fn emit_signature(w: &mut Sink<'_>, plan: &Plan<'_>, sig: ExternalSig, name:
     put_result(w, plan, sig.ret_kind, sig.ret_ty(plan, 0));
 }
 
-// The last lines of a term.
+// The last lines of a term, whose block is in a table.
 #[tactic(auto, using(crate::specs::Term::end_written, crate::specs::Term::term_pos))]
-fn emit_end(w: &mut Sink<'_>, body: &Body<'_>, term: TermId)
-    requires { body.now.t + 3 < length body.now.plan.now.tables.now }
-    ensures { let b = body.now in let m = term_at (env_in b) term.0 in (constructor_sig m).ret_kind ≡ return_kind_told b.ret_kind → b.term_name ≡ m.name → Writes (text_of (env_in b) (term_end m (term_in b).rows)) w.old w.new }
+fn emit_end(w: &mut Sink<'_>, body: &Body<'_>, block: usize, term: TermId)
+    ensures { let b = body.now in let m = term_at (env_in b) term.0 in (constructor_sig m).ret_kind ≡ return_kind_told b.ret_kind → b.term_name ≡ m.name → Writes (text_of (env_in b) (term_end m (block_in b.plan.now block))) w.old w.new }
 {
     let plan = body.plan;
-    let (first, last) = block_rows(plan, body.t);
+    let (first, last) = block_rows(plan, block);
     let returns = ends_in_return(plan, first, last);
     let pos = table_word(plan, TERMS, term.0, 1);
     put_end(w, plan, returns, body.ret_kind, body.term_name, pos);
 }
 
-// The generated term whose tables are t, t + 1 and t + 2.
-pub fn emit_term(w: &mut Sink<'_>, plan: &Plan<'_>, options: Options, t: usize)
-    requires { t + 3 < length plan.now.tables.now }
-    ensures { (o : definition.Options) → VariantsIndexed plan.now → OptionsTold o options → TermFits (generated_in plan.now t) → WritesParts (env_of plan.now) (term_parts o (env_of plan.now) (generated_in plan.now t)) w.old w.new }
+// The generated term that these tables hold.
+pub fn emit_term(w: &mut Sink<'_>, plan: &Plan<'_>, options: Options, tables: GeneratedTables)
+    ensures { let g = generated_of plan.now tables in (o : definition.Options) → VariantsIndexed plan.now → OptionsTold o options → TermFits g → WritesParts (env_of plan.now) (term_parts o (env_of plan.now) g) w.old w.new }
 {
-    let term = TermId(table_word(plan, t, 0, 0));
+    let term = TermId(table_word(plan, tables.term, 0, 0));
     let name = table_word(plan, TERMS, term.0, 0);
     let sig = term.constructor_sig(plan);
     let body = Body {
         plan,
-        t,
+        bindings: tables.bindings,
         log: options.log,
         ret_kind: sig.ret_kind,
         term_name: name,
         threshold: options.threshold_of(sig.ret_kind),
     };
     emit_signature(w, plan, sig, name);
-    emit_body(w, &body, sig);
-    emit_end(w, &body, term);
+    emit_body(w, &body, tables.block, sig);
+    emit_end(w, &body, tables.block, term);
 }
 
-// All generated terms: their tables follow the first seven, three for each.
-#[tactic(auto, using(checks::proofs::Tests::terms_count))]
+// All generated terms.
 pub fn generate_internal_term_constructors(w: &mut Sink<'_>, plan: &Plan<'_>)
     ensures { VariantsIndexed plan.now → PlanFits (plan_of plan.now) → WritesParts (env_of plan.now) (parts (plan_of plan.now)) w.old w.new }
 {
     let options = Options::read(plan);
     for i in 0..generated_count(plan) {
-        emit_term(w, plan, options, GENERATED + 3 * i);
+        emit_term(w, plan, options, generated_tables(i));
     }
 }

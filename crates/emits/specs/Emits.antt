@@ -1,15 +1,15 @@
 -- What code does that writes as the definition says. `Emits e env d w o at n r o' at' n' r'` says: from the buffer o, the position at,
 -- the odd count n and the marks of references r, the writer w, at depth d, leads to o', at', n' and r'; past the room, e less one,
 -- it says nothing but that it stays there. It is all that a caller of a writing function has to know. Assumes nothing.
-use Rattle.std.specs.Prelude.{◌≡◌, refl, Bool, true, false, cond, List, [], ◌∷◌, ◌++◌, ℕ, zero, suc, ◌+◌, ◌≤◌, ◌<◌, length, set, get_or}
+use Rattle.std.specs.Prelude.{◌≡◌, refl, Bool, List, [], ◌∷◌, ◌++◌, ℕ, ◌+◌, ◌≤◌, ◌<◌, length}
 use Rattle.std.proofs.Common.{sym, ap, ◌∙◌, append_assoc, add-zero, zero-add, add_assoc, arith, length-append}
 use Rattle.std.proofs.lemmas.List.Edits.{sets}
 use Rattle.text.specs.Sink.{view, put, Puts}
 use Rattle.text.specs.SinkLaws.{view_held, view_past, sets_append}
 use Rattle.plan.specs.Plan.{Environment}
-use Rattle.codegen.specs.Piece.{Piece, render, odd_piece, odd_pieces}
-use Rattle.codegen.specs.Writer.{Marks, contains, insert, Said, Writer, said, say, mark, ask, ◌▸◌, nothing}
-use Rattle.emits.specs.Place.{Place, over, here, place, place_here, place_over, count_over, place_cases, with_sink, place_sink}
+use Rattle.codegen.specs.Piece.{Piece, render, odd_pieces}
+use Rattle.codegen.specs.Writer.{Marks, contains, insert, Writer, said, say, mark, ask, ◌▸◌}
+use Rattle.emits.specs.Place.{Place, over, here, place, place_over, count_over, place_cases, with_sink, place_sink}
 
 unfoldable pub run : ℕ → Environment → ℕ → Writer → Place Marks → Place Marks
 run e env d w over = over

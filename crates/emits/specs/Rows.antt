@@ -1,11 +1,11 @@
 -- A block's rows in a buffer: what each row writes is its own (`Part.row`), and what is left to write from the middle of a walk.
 -- The marks of references are part of the place; the rest of a block's state goes by the rows alone, so it is known wherever the
 -- writing is, past the room too. Assumes nothing.
-use Rattle.std.specs.Prelude.{◌≡◌, ℕ, zero, suc, ◌+◌, ◌≤◌, ◌<◌}
+use Rattle.std.specs.Prelude.{◌≡◌, ℕ, suc, ◌+◌}
 use Rattle.std.proofs.Math.Path.{refl, sym}
 use Rattle.std.proofs.Common.{ap, ◌∙◌, arith}
 use Rattle.std.proofs.Math.Bool.{Bool}
-use mathlib.Core.List.{List, [], ◌∷◌, ◌++◌}
+use mathlib.Core.List.{List, ◌∷◌, ◌++◌}
 use Rattle.std.proofs.Math.Nat.{add_assoc}
 use Rattle.std.proofs.Math.ListN.{length, length-append}
 use Rattle.std.proofs.lemmas.List.Edits.{sets}
@@ -13,7 +13,7 @@ use Rattle.text.specs.SinkLaws.{sets_append}
 use Rattle.plan.specs.Plan.{Environment}
 use Rattle.plan.specs.Row.{Row}
 use Rattle.codegen.specs.Writer.{Marks}
-use Rattle.codegen.specs.Block.{Body, State, Part, closing, written, next, walk, text_of, odds_of}
+use Rattle.codegen.specs.Block.{Body, State, Part, written, next, walk, text_of, odds_of}
 use Rattle.splitting.specs.Lines.{text_append}
 use Rattle.splitting.specs.Simulation.{odds_append}
 use Rattle.splitting.specs.Marks.{with_refs, next_with}

@@ -1,12 +1,11 @@
 -- What code does to a `Sink` that writes as the definition says: `Emits env d v w r w' r'` says that from the sink w and the marks of
 -- references r, the writer v, at depth d, leads to w' and r'; past the room it says nothing but that it stays there. It is all that a
 -- caller of a writing function has to know. Assumes nothing.
-use Rattle.std.specs.Prelude.{◌≡◌, refl, Bool, List, [], ◌∷◌, ◌++◌, ℕ, ◌+◌, ◌≤◌, ◌<◌}
-use Rattle.std.proofs.Common.{sym, ap, ◌∙◌, subst}
-use Rattle.text.specs.Writes.{Writes}
+use Rattle.std.specs.Prelude.{◌≡◌, refl, Bool, List, ℕ, ◌≤◌}
+use Rattle.std.proofs.Common.{◌∙◌, subst}
 use Rattle.text.specs.declared.sink.Sink.{Sink}
 use Rattle.plan.specs.Plan.{Environment}
-use Rattle.codegen.specs.Piece.{Piece, render, odd_pieces}
+use Rattle.codegen.specs.Piece.{Piece, odd_pieces}
 use Rattle.codegen.specs.Writer.{Marks, contains, insert, Writer, say, mark, ask, ◌▸◌}
 use Rattle.emits.specs.Emits as at
 use Rattle.emits.specs.Emits.{Counts, counts_none}

@@ -1,5 +1,6 @@
 -- What is measured and written gives the answer. Assumes nothing.
 use Rattle.std.specs.Prelude.{ℕ, ◌+◌, ◌≤◌, ◌<◌, Bool, cond, ◌&&◌, List, ◌++◌, drop, Option, Some, None, Ok, Err}
+use Rattle.std.specs.Bool.{then_some}
 use Rattle.std.proofs.Math.Path.{◌≡◌, refl, sym}
 use Rattle.std.proofs.Common.{ap, ◌∙◌, subst}
 use Rattle.std.proofs.Math.Bool.{true, false}
@@ -32,7 +33,7 @@ use Rattle.emitter.specs.declared.Text.{Text}
 use Rattle.emitter.specs.Answered.{Emitted, Answers, uncounted, items_answer}
 use Rattle.body.specs.Walks.{WritesParts}
 use Rattle.emit_terms.specs.Accepted.{PlanFits, accepted_fits}
-use Rattle.emitter.specs.Held.{Held, HeldIn, form_text, form_count, answer_with, answer_in}
+use Rattle.emitter.specs.Held.{Held, HeldIn, form_text, form_count, answer_with, answer_in, form_answer}
 use Rattle.emitter.specs.declared.Form.{Form}
 use Rattle.emitter.specs.declared.Form.TheVariants.{Whole, Terms, Items}
 use Rattle.emitter.specs.Texts.{Texts, parts_written, texts_puts, puts_texts, texts_room, texts_fit, texts_written, Starts, WritesText, Measured}
@@ -64,13 +65,13 @@ module _ (p : Plan) {w w' : Sink} where
 
 module _ (t : List ℕ) (k : ℕ) (le : k ≤ length t) (room : ℕ) where
   -- where a text led to says whether it fits
-  pub measured : {w w' : Sink} {r : Option Text} → Starts w → w.end ≡ room + 1 → WritesText t k w w' → r ≡ cond {A = Option Text} (leb w'.at room && leb w'.odd room) (Some (record { length = w'.at; count = w'.odd })) None → Measured t k room w.out.now w'.out.now r
+  pub measured : {w w' : Sink} {r : Option Text} → Starts w → w.end ≡ room + 1 → WritesText t k w w' → r ≡ then_some (leb w'.at room && leb w'.odd room) (record { length = w'.at; count = w'.odd }) → Measured t k room w.out.now w'.out.now r
   measured {w} {w'} {r} h e q z = go (leb (length t) room) refl
     where
       texts : Texts (room + 1) t k w.out.now 0 0 w'.out.now w'.at w'.odd
       texts = rw (e, h.at, h.odd) at q.texts
 
-      past : leb (length t) room ≡ false → (a b : Bool) → leb w'.at room ≡ a → leb w'.odd room ≡ b → cond {A = Option Text} (a && b) (Some (record { length = w'.at; count = w'.odd })) None ≡ None
+      past : leb (length t) room ≡ false → (a b : Bool) → leb w'.at room ≡ a → leb w'.odd room ≡ b → then_some {T = Text} (a && b) (record { length = w'.at; count = w'.odd }) ≡ None
       past g true true x y = absurd (omega (arith, leb-false (length t) room g, texts_room texts le (omega (arith, leb-true w'.at room x)) (omega (arith, leb-true w'.odd room y))))
       past g true false x y = refl
       past g false b x y = refl
@@ -87,7 +88,7 @@ module _ (t : List ℕ) (k : ℕ) (le : k ≤ length t) (room : ℕ) where
   unfolding answer_with
   answers_none m o = go (leb (length t) room) m.result
     where
-      go : (b : Bool) → ◌≡◌ {A = Option Text} None (cond b (Some (record { length = length t; count = k })) None) → Answers (cond b (record { number = 0; length = length t; count = k; text = t }) (refuse 11)) (Err Room) o o
+      go : (b : Bool) → ◌≡◌ {A = Option Text} None (then_some b (record { length = length t; count = k })) → Answers (cond b (record { number = 0; length = length t; count = k; text = t }) (refuse 11)) (Err Room) o o
       go true e = absurd (let z : ◌≡◌ {A = ℕ} 0 1 = cc in omega arith)
       go false e = record { number = refl; length = refl; count = refl; written = refl; bytes = refl }
 
@@ -95,7 +96,7 @@ module _ (t : List ℕ) (k : ℕ) (le : k ≤ length t) (room : ℕ) where
   fits : {x : Text} {d d' : List ℕ} → Measured t k room d d' (Some x) → (length t ≤ room) × (x.length ≡ length t) × (x.count ≡ k)
   fits {x} m = go (leb (length t) room) refl m.result
     where
-      go : (b : Bool) → leb (length t) room ≡ b → ◌≡◌ {A = Option Text} (Some x) (cond b (Some (record { length = length t; count = k })) None) → (length t ≤ room) × (x.length ≡ length t) × (x.count ≡ k)
+      go : (b : Bool) → leb (length t) room ≡ b → ◌≡◌ {A = Option Text} (Some x) (then_some b (record { length = length t; count = k })) → (length t ≤ room) × (x.length ≡ length t) × (x.count ≡ k)
       go true g e = let q : x ≡ record { length = length t; count = k } = cc in (leb-true (length t) room g, ap (λ (y : Text). y.length) q, ap (λ (y : Text). y.count) q)
       go false g e = absurd (let z : ◌≡◌ {A = ℕ} 0 1 = cc in omega arith)
 
@@ -133,7 +134,7 @@ no_count room (accepted p) = by_test (leb (length (form_text Items p)) room)
     by_test true = refl
     by_test false = refl
 
-pub items_is : (plan : List ℕ) (room : ℕ) → answer_in Items room (outcome plan) ≡ items_answer plan room
+items_is : (plan : List ℕ) (room : ℕ) → answer_in Items room (outcome plan) ≡ items_answer plan room
 unfolding items_answer
 items_is plan room = no_count room (outcome plan) ∙ in_of Items room (outcome plan)
 
@@ -142,20 +143,25 @@ unfolding answer_in answer_with answer_of
 counted f h room (refused n) = refl
 counted f h room (accepted p) = rw (h p) refl
 
-pub whole_is : (plan : List ℕ) (room : ℕ) → answer_in Whole room (outcome plan) ≡ answer plan room
+whole_is : (plan : List ℕ) (room : ℕ) → answer_in Whole room (outcome plan) ≡ answer plan room
 unfolding answer
 whole_is plan room = counted Whole (λ p. refl) room (outcome plan)
 
-pub terms_is : (plan : List ℕ) (room : ℕ) → answer_in Terms room (outcome plan) ≡ terms_answer plan room
+terms_is : (plan : List ℕ) (room : ℕ) → answer_in Terms room (outcome plan) ≡ terms_answer plan room
 unfolding terms_answer
 terms_is plan room = counted Terms (λ p. refl) room (outcome plan)
+
+pub form_is : (f : Form) (plan : List ℕ) (room : ℕ) → answer_in f room (outcome plan) ≡ form_answer f plan room
+form_is Whole = whole_is
+form_is Terms = terms_is
+form_is Items = items_is
 
 -- THE READER'S ANSWER
 
 module _ (f : Form) (s words rows tables : List ℕ) (room : ℕ) (o : List ℕ) where
-  pub answers_refused : (r : Refusal) → Says (outcome s) s (Err r) words rows tables → Answers (answer_in f room (outcome s)) (Err r) o o
+  pub answers_refused : (r : Refusal) → Says (outcome s) s (Err r) words rows tables → Answers (form_answer f s room) (Err r) o o
   unfolding Says answer_in
-  answers_refused r h = go (outcome s) refl h
+  answers_refused r h = rw (form_is f s room) at (go (outcome s) refl h)
     where
       go : (x : Outcome) → outcome s ≡ x → Says x s (Err r) words rows tables → Answers (answer_in f room x) (Err r) o o
       go (refused m) e q = record { number = q; length = refl; count = refl; written = rw (ne_eqb m 0 (λ z. absurd (omega (arith, refused_number s m e)))) refl; bytes = refl }
@@ -171,9 +177,9 @@ module _ (f : Form) (s words rows tables : List ℕ) (room : ℕ) (o : List ℕ)
       go (accepted p) q = q.held
 
   pub answers_held : (h : Laid) {index : List ℕ} {r : Emitted} {o' : List ℕ} → Says (outcome s) s (Ok h) words rows tables → Indexes (Ok h) words rows tables index
-      → ((p : Plan) → Held p s words rows (take (h.tables + 1) tables) index → Answers (answer_in f room (accepted p)) r o o') → Answers (answer_in f room (outcome s)) r o o'
+      → ((p : Plan) → Held p s words rows (take (h.tables + 1) tables) index → Answers (answer_in f room (accepted p)) r o o') → Answers (form_answer f s room) r o o'
   unfolding Says Indexes
-  answers_held h {index} {r} {o'} i v k = go (outcome s) refl i
+  answers_held h {index} {r} {o'} i v k = rw (form_is f s room) at (go (outcome s) refl i)
     where
       go : (x : Outcome) → outcome s ≡ x → Says x s (Ok h) words rows tables → Answers (answer_in f room x) r o o'
       go (refused m) e q = absurd q

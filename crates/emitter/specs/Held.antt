@@ -1,13 +1,14 @@
 -- What is known where a text is written: the plan is accepted, and the buffers hold it with the index of its variants.
 -- Assumes nothing: these are definitions.
-use Rattle.std.specs.Prelude.{ℕ, ◌≡◌, Bool, cond, ◌&&◌, List, ltb, leb, length}
+use Rattle.std.specs.Prelude.{ℕ, ◌≡◌, cond, List, leb, length}
 use Rattle.plan.specs.Plan.{Plan}
 use Rattle.plan.specs.Refusal.{Outcome, refused, accepted, outcome}
 use Rattle.codegen.specs.Piece.{render}
 use Rattle.codegen.specs.Items.{items}
-use Rattle.codegen.specs.Answer.{Answer, refuse, whole_text}
+use Rattle.codegen.specs.Answer.{Answer, refuse, answer, terms_answer, whole_text}
 use Rattle.codegen.specs.Terms.{terms_text, odds}
 use Rattle.view.specs.Tables.{plan_in}
+use Rattle.emitter.specs.Answered.{items_answer}
 use Rattle.emitter.specs.declared.Form.{Form}
 use Rattle.emitter.specs.declared.Form.TheVariants.{Whole, Terms, Items}
 use Rattle.variants.specs.Index.{VariantIndex}
@@ -33,14 +34,16 @@ unfoldable pub answer_in : Form → ℕ → Outcome → Answer
 answer_in f room (refused n) = refuse n
 answer_in f room (accepted p) = answer_with (form_text f p) (form_count f p) room
 
+-- the answer of each entry, for a plan's bytes and the room of a buffer
+abbrev pub form_answer : Form → List ℕ → ℕ → Answer
+form_answer Whole = answer
+form_answer Terms = terms_answer
+form_answer Items = items_answer
+
 pub record Held (p : Plan) (plan words rows tables index : List ℕ) : Type 0 where
   pub accepts : outcome plan ≡ accepted p
   pub is : plan_in plan words rows tables ≡ p
   pub indexed : VariantIndex words rows tables index
-
--- a position and a count are below one more than the room
-abbrev pub below : ℕ → ℕ → ℕ → Bool
-below at n e = ltb at e && ltb n e
 
 -- the same of a plan's buffers as one value
 abbrev pub HeldIn : Plan → buffers.Plan → Type 0

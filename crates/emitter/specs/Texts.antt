@@ -1,5 +1,6 @@
 -- A text with its count, put into a buffer from its start: what fits is there, and what doesn't fit is seen not to. Assumes nothing.
-use Rattle.std.specs.Prelude.{ℕ, ◌+◌, ◌≤◌, ◌<◌, Bool, cond, List, [], ◌++◌, drop, leb, Option, Some, None}
+use Rattle.std.specs.Prelude.{ℕ, ◌+◌, ◌≤◌, ◌<◌, Bool, List, [], ◌++◌, drop, leb, Option}
+use Rattle.std.specs.Bool.{then_some}
 use Rattle.std.proofs.Math.Path.{◌≡◌, refl, sym, ap}
 use Rattle.std.proofs.Common.{◌∙◌, append-nil, arith, zero-add, add-zero, add_assoc, length-append}
 use Rattle.std.proofs.Math.Bool.{true, false}
@@ -109,5 +110,5 @@ parts_written x = record { buffer = x.buffer; end = x.end; texts = texts_parts x
 
 -- a text that was put from a buffer's start: its length and count, where it fits the room, and then, where it fits the buffer too, it stands there
 pub record Measured (t : List ℕ) (k room : ℕ) (o o' : List ℕ) (r : Option Text) : Type 0 where
-  pub result : r ≡ cond (leb (length t) room) (Some (record { length = length t; count = k })) None
+  pub result : r ≡ then_some (leb (length t) room) (record { length = length t; count = k })
   pub bytes : length t ≤ room → length t ≤ length o → o' ≡ t ++ drop (length t) o

@@ -1,5 +1,6 @@
 // The entries as C functions, on slices and numbers: a slice passes as a pointer and a length. Each returns the answer's number and
-// gives the length and the count as the first two entries of `told`, as far as there are any.
+// gives the length and the count as the first two entries of `told`, as far as there are any. They differ in the entry that they call:
+// document 01 asks for each as a function of its own.
 ghost use Rattle.std.specs.Prelude.{◌≡◌, [], ◌∷◌, length};
 ghost use Rattle.std.proofs.lemmas.List.Edits.{sets};
 ghost use Rattle.codegen.specs.Answer.{answer, terms_answer};
@@ -8,34 +9,14 @@ ghost use Rattle.emitter.specs.Answered.{number_of, length_of, count_of, items_a
 use super::Text;
 use refusal::Refusal;
 
-// The first two entries, as far as there are any. By `get_mut`, which would be shorter, no proof is found.
-fn set_pair(told: &mut [usize], first: usize, second: usize)
-    ensures { told.new ≡ sets told.old 0 (first ∷ second ∷ []) }
-{
-    let n = told.len();
-    if n < 1 {
-        return;
-    }
-    told[0] = first;
-    if n < 2 {
-        return;
-    }
-    told[1] = second;
-}
-
+// A C function answers a number, and has no `Result`.
 fn tell(r: Result<Text, Refusal>, told: &mut [usize]) -> u32
     ensures { (result ≡ number_of r) × (told.new ≡ sets told.old 0 (length_of r ∷ count_of r ∷ [])) }
 {
-    match r {
-        Ok(text) => {
-            set_pair(told, text.length, text.count);
-            0
-        }
-        Err(refusal) => {
-            set_pair(told, 0, 0);
-            refusal.number()
-        }
-    }
+    let text = r.unwrap_or_default();
+    let n = told.len().min(2);
+    told[..n].copy_from_slice(&[text.length, text.count][..n]);
+    r.err().map_or(0, u32::from)
 }
 
 // The whole module.

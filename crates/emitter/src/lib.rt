@@ -7,11 +7,11 @@ pub mod reading;
 
 ghost use Rattle.std.specs.Prelude.{◌≡◌, ◌+◌, ◌≤◌, ◌<◌, length, IfSome};
 ghost use Rattle.plan.specs.Plan as definition;
-ghost use Rattle.plan.specs.Refusal.{accepted, outcome};
+ghost use Rattle.plan.specs.Refusal.{accepted};
 ghost use Rattle.codegen.specs.Answer.{answer, terms_answer};
 ghost use Rattle.reader.specs.Reading.{Enough, Room};
 ghost use Rattle.emitter.specs.Answered.{Answers, items_answer};
-ghost use Rattle.emitter.specs.Held.{HeldIn, form_text, form_count, answer_in};
+ghost use Rattle.emitter.specs.Held.{HeldIn, form_text, form_count, answer_in, form_answer};
 ghost use Rattle.emitter.specs.Texts.{Starts, WritesText, Measured};
 
 use emit_terms::term::generate_internal_term_constructors;
@@ -21,7 +21,7 @@ use text::sink::Sink;
 use view::buffers::Plan;
 
 // A text that is written: its length, and how many of its literals are odd.
-#[derive(Clone, Copy, Debug, PartialEq, Eq)]
+#[derive(Clone, Copy, Debug, Default, PartialEq, Eq)]
 pub struct Text {
     pub length: usize,
     pub count: usize,
@@ -35,7 +35,8 @@ pub enum Form {
     Items,
 }
 
-// `generate_rust` of codegen.rs 176, or a part of it. A closure in place of the form would say which at each entry, and no less.
+// `generate_rust` of codegen.rs 176, or a part of it. A closure in place of the form would say which at each entry, and no less; and
+// what calls this would be compiled once for each closure.
 fn put_text(w: &mut Sink<'_>, form: Form, plan: &Plan<'_>)
     ensures { (p : definition.Plan) → HeldIn p plan.now → Starts w.old → WritesText (form_text form p) (form_count form p) w.old w.new }
 {
@@ -57,14 +58,11 @@ fn put_measured(out: &mut [u8], room: usize, form: Form, plan: &Plan<'_>) -> Opt
 {
     let mut w = Sink::new(out, room + 1);
     put_text(&mut w, form, plan);
-    let (length, count) = (w.at, w.odd);
-    if room < length {
-        return None;
-    }
-    if room < count {
-        return None;
-    }
-    Some(Text { length, count })
+    let text = Text {
+        length: w.at,
+        count: w.odd,
+    };
+    ((text.length <= room) & (text.count <= room)).then_some(text)
 }
 
 // The answer for a plan that is accepted. The text is measured as it is put into a draft; where the draft has all of it, it is
@@ -78,9 +76,7 @@ fn answer_held(
     ensures { (p : definition.Plan) → HeldIn p plan.now → Answers (answer_in form (length out.old) (accepted p)) result out.old out.new }
 {
     let room = out.len();
-    let Some(text) = put_measured(draft, room, form, plan) else {
-        return Err(Refusal::Room);
-    };
+    let text = put_measured(draft, room, form, plan).ok_or(Refusal::Room)?;
     if text.length <= draft.len() {
         out[..text.length].copy_from_slice(&draft[..text.length]);
     } else {
@@ -90,6 +86,7 @@ fn answer_held(
 }
 
 // The answer for any bytes, with buffers that are long enough for them. The draft serves the reader before it has the text.
+// `Room` is of the buffers and of the plan that is read into them, so it is no invariant of `Buffers`.
 fn answer_read(
     plan: &[u8],
     out: &mut [u8],
@@ -98,7 +95,7 @@ fn answer_read(
     draft: &mut [u8],
 ) -> Result<Text, Refusal>
     requires { Room plan.now buffers.old.words.now buffers.old.rows.now buffers.old.tables.now draft.old }
-    ensures { Answers (answer_in form (length out.old) (outcome plan.now)) result out.old out.new }
+    ensures { Answers (form_answer form plan.now (length out.old)) result out.old out.new }
 {
     let mut index = [0u32; 1281];
     let held = refusals::read_into(plan, buffers, draft, &mut index)?;
@@ -118,7 +115,7 @@ fn answer_with<const WORDS: usize, const ROWS: usize, const TABLES: usize, const
 ) -> Result<Text, Refusal>
     requires enough { Enough (length plan.now) WORDS ROWS TABLES DRAFT }
     requires few { (WORDS ≤ 262144) × (ROWS ≤ 262144) × (TABLES ≤ 262144) × (DRAFT ≤ 262144) }
-    ensures { Answers (answer_in form (length out.old) (outcome plan.now)) result out.old out.new }
+    ensures { Answers (form_answer form plan.now (length out.old)) result out.old out.new }
 {
     let mut words = [0u32; WORDS];
     let mut rows = [0u32; ROWS];
@@ -134,10 +131,11 @@ fn answer_with<const WORDS: usize, const ROWS: usize, const TABLES: usize, const
 }
 
 // Buffers that are long enough for each plan take longer to clear than a small plan to answer. Short and long plans have a function
-// each, which all entries call: so neither is compiled into them, and a short plan touches no stack that long buffers take.
+// each, which all entries call: so neither is compiled into them, and a short plan touches no stack that long buffers take. What they
+// are given, the plan, the buffer and the form, is an entry's: a struct of the three would be made at each entry, to be taken apart here.
 fn answer_short(plan: &[u8], out: &mut [u8], form: Form) -> Result<Text, Refusal>
     requires { length plan.now ≤ 2048 }
-    ensures { Answers (answer_in form (length out.old) (outcome plan.now)) result out.old out.new }
+    ensures { Answers (form_answer form plan.now (length out.old)) result out.old out.new }
 {
     if plan.len() <= 512 {
         return answer_with::<512, 257, 129, 4096>(plan, out, form);
@@ -146,7 +144,7 @@ fn answer_short(plan: &[u8], out: &mut [u8], form: Form) -> Result<Text, Refusal
 }
 
 fn answer_long(plan: &[u8], out: &mut [u8], form: Form) -> Result<Text, Refusal>
-    ensures { Answers (answer_in form (length out.old) (outcome plan.now)) result out.old out.new }
+    ensures { Answers (form_answer form plan.now (length out.old)) result out.old out.new }
 {
     if plan.len() <= 8192 {
         return answer_with::<8192, 4097, 2049, 65536>(plan, out, form);
@@ -160,7 +158,7 @@ fn answer_long(plan: &[u8], out: &mut [u8], form: Form) -> Result<Text, Refusal>
 
 // The answer in a form.
 fn answer_form(plan: &[u8], out: &mut [u8], form: Form) -> Result<Text, Refusal>
-    ensures { Answers (answer_in form (length out.old) (outcome plan.now)) result out.old out.new }
+    ensures { Answers (form_answer form plan.now (length out.old)) result out.old out.new }
 {
     if plan.len() <= 2048 {
         return answer_short(plan, out, form);

@@ -1,13 +1,15 @@
 // Reading and weights for crates above this one: a plan's bytes into buffers, what the buffers hold, and how a block's rows stand
-// below one another. `view/specs/Buffers.antt` says which plan the buffers hold (`plan_of`).
-ghost use Rattle.std.specs.Prelude.{◌≡◌, [], ◌+◌, ◌<◌, length, get_or, drop};
+// below one another. `view/specs/Buffers.antt` says which plan the buffers hold (`plan_of`). Each publishes a method of `Plan` or a
+// function of a crate below, by one call.
+ghost use Rattle.std.specs.Prelude.{◌≡◌, ℕ, List, [], ◌+◌, ◌<◌, length, get_or, drop};
 ghost use Rattle.plan.specs.Row.{level};
 ghost use Rattle.plan.specs.Refusal.{outcome};
 ghost use Rattle.codegen.specs.Block.{arm_count, block_weight};
 ghost use Rattle.splitting.specs.Demand3.{rows_below};
 ghost use Rattle.rows.specs.View.{nth, type_of, variant_of, term_of, binding_of, block_of};
-ghost use Rattle.layout.specs.View.{text_of};
+ghost use Rattle.layout.specs.View.{cut, text_of};
 ghost use Rattle.view.specs.Buffers.{words_of, rows_of};
+ghost use Rattle.view.specs.Tables.{table_rows};
 ghost use Rattle.view.specs.Told.{type_told, variant_told, term_told, binding_told, control_flow_told, control_flow_of, constraint_told, constraint_of};
 ghost use Rattle.reader.specs.Reading.{Says, Keeps};
 ghost use Rattle.refusals.specs.Answered.{Indexes};
@@ -23,6 +25,7 @@ use view::environment::{Term, TypeData, Variant};
 // Reads a plan into the buffers and judges it by the refusals 1 to 10: the refusal, or how many rows and tables the buffers hold.
 // The refusals 1 and 2 change no buffer, and 3 not the index. Any other refusal leaves any numbers in them, as do the entries past
 // those that a held plan uses: `rows` up to the number of rows, `tables` up to the number of tables, `words` up to the end of the last row.
+// The buffers are the caller's, since there is no heap; their types say how long they are.
 pub fn read(
     plan: &[u8],
     words: &mut [u32; 65536],
@@ -47,7 +50,8 @@ pub fn row_count(plan: &Plan<'_>, t: usize) -> usize
 
 // The number of row i of table t; where the table has no such row, a number that no row has.
 pub fn row_at(plan: &Plan<'_>, t: usize, i: usize) -> usize
-    ensures { words_of plan.now result ≡ get_or (rows_of plan.now t) i [] }
+    ensures own { words_of plan.now result ≡ get_or (rows_of plan.now t) i [] }
+    ensures any { (words : List ℕ) → let p = plan.now in cut words p.rows.now result ≡ get_or (table_rows words p.rows.now p.tables.now t) i [] }
 {
     plan.row_at(t, i)
 }
@@ -59,11 +63,11 @@ pub fn word(plan: &Plan<'_>, r: usize, k: usize) -> usize
     plan.word(r, k)
 }
 
-// How many words the list of row r has, which stands after `header` words.
-pub fn list_len(plan: &Plan<'_>, r: usize, header: usize) -> usize
-    ensures { result ≡ length (drop header (words_of plan.now r)) }
+// The list of row r, which stands after `header` words.
+pub fn list<'a>(plan: &Plan<'a>, r: usize, header: usize) -> &'a [u32]
+    ensures { result.now ≡ drop header (words_of plan.now r) }
 {
-    plan.list_len(r, header)
+    plan.list(r, header)
 }
 
 // The text of row r, whose words are its start and its end in the plan.

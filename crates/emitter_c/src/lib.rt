@@ -1,5 +1,6 @@
 // The entries as C functions, on slices and numbers: a slice passes as a pointer and a length. Each returns the answer's number and
 // gives the length and the count as the first two entries of `told`, as far as there are any. The static library is `libemitter.a`.
+// They differ in the entry that they call: each is a symbol of the library.
 #![tactic(auto)]
 
 ghost use Rattle.std.specs.Prelude.{length};

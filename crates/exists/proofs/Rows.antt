@@ -53,11 +53,6 @@ module _ (plan words rows tables : List ℕ) where
         every_map (row_refers e (length (rows_of b))) block_of (rows_of k),
       ) refl
 
-  pub generated_rest : (t b k m args n : ℕ) → m ≡ nth (get_or (rows_of t) 0 []) 0 → args ≡ length (drop 8 (get_or (rows_of 6) m [])) → n ≡ length (rows_of b)
-      → generated_refers e (record { term = nth (get_or (rows_of t) 0 []) 0; bindings = map binding_of (rows_of b); rows = map block_of (rows_of k) })
-      ≡ (constructor_exists e m && (every (λ ws. binding_row_refers e args n (binding_of ws)) (rows_of b) && every (λ ws. row_refers e n (block_of ws)) (rows_of k)))
-  generated_rest t b k m args n pm pa pn = rw (pa, pm, pn) (generated_tests t b k)
-
   pub exist_tests : all_exist (plan_in plan words rows tables)
       ≡ (every (λ ws. type_refers e (type_of ws)) (rows_of 4) && (every (λ ws. variant_refers e (variant_of ws)) (rows_of 5) && (every (λ ws. term_refers e (term_of ws)) (rows_of 6)
       && every (generated_refers e) (plan_in plan words rows tables).generated)))

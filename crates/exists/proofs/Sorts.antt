@@ -1,24 +1,28 @@
 -- Which types exist, and their sorts and variants. Assumes nothing.
-use Prim.Native.Nat.{ℕ, suc, ◌+◌, ◌-◌, ◌≤◌, ◌<◌}
+use Prim.Native.Nat.{ℕ, suc, zero, ◌+◌, ◌-◌, ◌≤◌, ◌<◌}
 use mathlib.Core.Path.{◌≡◌, refl, sym, ap, ◌∙◌}
 use mathlib.Core.Logic.{inl, inr}
-use mathlib.Core.Bool.{Bool, true, false, ◌&&◌}
-use mathlib.Core.List.{List, [], map}
+use mathlib.Core.Bool.{Bool, true, false, cond, ◌&&◌}
+use mathlib.Core.List.{List, ◌∷◌, map}
+use Rattle.std.specs.Prelude.{Option, Some, None}
+use Rattle.std.specs.Option.{option_map}
+use Rattle.std.specs.List.{filter, range_with_len, slice_get}
 use native.Mathlib.Omega.{arith}
-use lib.Dec.{ltb}
+use lib.Dec.{eqb, ltb}
 use lib.ListN.{length, get_or, get_or-eq_default}
-use borrow.Author.Tests.{eq-eqb, ne_eqb, lt-ltb, le-ltb, ltb-true}
+use borrow.Author.Tests.{le-ltb, ltb-true}
 use Rattle.literal.specs.declared.builtin_type.BuiltinType.TheVariants as builtin
 use Rattle.plan.specs.Plan.{Environment, TypeData, Builtin, unit, Variant}
 use Rattle.plan.specs.Lookup.{type_at, variants_of, variant_at, fields_of, field_count}
 use Rattle.plan.specs.Refusal.{type_exists, is_enum, is_struct, enum_exists, struct_exists}
-use Rattle.rows.specs.View.{nth, type_of, variant_of}
+use Rattle.rows.specs.View.{nth, variant_of}
 use Rattle.layout.specs.View.{cut, cuts}
 use Rattle.view.specs.Tables.{table_rows, environment_in}
-use Rattle.view.proofs.Laws.{table_length, cuts_next, cuts_none}
-use Rattle.view.proofs.Plans.{types_count, builtin_is, type_is, variants_are}
+use Rattle.view.proofs.Laws.{table_length}
+use Rattle.view.proofs.Plans.{types_count, builtin_is, variants_are}
 use Rattle.variants.proofs.Variants.{numbers_count, number_at}
-use Rattle.exists.specs.Ready.{Ready, Undeclared}
+use Rattle.view.specs.Buffers.{Undeclared}
+use Rattle.exists.specs.Ready.{Ready}
 
 and_false : (a : Bool) → false ≡ (a && false)
 and_false true = refl
@@ -37,36 +41,30 @@ nothing = record { ty = 0; name = 0; fields = unit }
 abbrev pub count_at : ℕ → List Variant → ℕ → ℕ
 count_at n vs k = field_count (get_or (variants_of n vs) k nothing).fields
 
-module _ (words rows : List ℕ) (n r m k : ℕ) where
-  pub count_other : r < m → (nth (cut words rows r) 0 ≡ n → ⊥) → count_at n (map variant_of (cuts words rows r (m - r))) k ≡ count_at n (map variant_of (cuts words rows (r + 1) (m - (r + 1)))) k
-  unfolding variants_of variant_of
-  count_other h q = rw (cuts_next words rows r m h, ne_eqb _ n q) refl
+-- the same by the row of the variant
+abbrev pub count_by : List ℕ → List ℕ → Option ℕ → ℕ
+count_by words rows None = 0
+count_by words rows (Some r) = field_count (variant_of (cut words rows r)).fields
 
-  pub count_same : r < m → nth (cut words rows r) 0 ≡ n → k ≡ 0 → field_count (variant_of (cut words rows r)).fields ≡ count_at n (map variant_of (cuts words rows r (m - r))) k
-  unfolding variants_of variant_of
-  count_same h q z = rw (cuts_next words rows r m h, eq-eqb _ n q, z) refl
+-- the rows of the variants of type n, of m rows from row i on
+abbrev pub rows_of_type : List ℕ → List ℕ → ℕ → ℕ → ℕ → List ℕ
+rows_of_type words rows n i m = filter (λ r. eqb (nth (cut words rows r) 0) n) (range_with_len i m)
 
-  pub count_later : r < m → nth (cut words rows r) 0 ≡ n → (j : ℕ) → k ≡ suc j → count_at n (map variant_of (cuts words rows r (m - r))) k ≡ count_at n (map variant_of (cuts words rows (r + 1) (m - (r + 1)))) j
-  unfolding variants_of variant_of
-  count_later h q j z = rw (cuts_next words rows r m h, eq-eqb _ n q, z) refl
-
-  pub count_end : m ≤ r → 0 ≡ count_at n (map variant_of (cuts words rows r (m - r))) k
-  unfolding variants_of
-  count_end h = rw (cuts_none words rows r m h) refl
+module _ (words rows : List ℕ) (n : ℕ) where
+  pub count_row : (i m k : ℕ) → count_by words rows (slice_get (rows_of_type words rows n i m) k) ≡ count_at n (map variant_of (cuts words rows i m)) k
+  unfolding variants_of variant_of cuts
+  count_row i zero k = refl
+  count_row i (suc m) k = by_test (eqb (nth (cut words rows i) 0) n) k (count_row (i + 1) m) where
+    by_test : (b : Bool) (k : ℕ) → ((k : ℕ) → count_by words rows (slice_get (rows_of_type words rows n (i + 1) m) k) ≡ count_at n (map variant_of (cuts words rows (i + 1) m)) k)
+        → count_by words rows (slice_get (cond b (i ∷ rows_of_type words rows n (i + 1) m) (rows_of_type words rows n (i + 1) m)) k)
+        ≡ field_count (get_or (cond b (variant_of (cut words rows i) ∷ variants_of n (map variant_of (cuts words rows (i + 1) m))) (variants_of n (map variant_of (cuts words rows (i + 1) m)))) k nothing).fields
+    by_test true zero more = refl
+    by_test true (suc k) more = more k
+    by_test false k more = more k
 
 module _ (plan words rows tables : List ℕ) (n : ℕ) where
   abbrev e : Environment
   e = environment_in plan words rows tables
-
-  abbrev row_words : List ℕ
-  row_words = get_or (table_rows words rows tables 4) (n - 13) []
-
-  -- a type that the plan declares has a row
-  pub type_found : 13 ≤ n → n - 13 < length (table_rows words rows tables 4) → (ws : List ℕ) → ws ≡ row_words → (type_exists e n ≡ true) × (type_at e n ≡ type_of ws)
-  type_found h g ws q = (lt-ltb n (length e.types) (omega (arith, types_count words rows tables plan)), type_is words rows tables plan n h g ∙ ap type_of (sym q))
-
-  pub type_past : 13 ≤ n → length (table_rows words rows tables 4) ≤ n - 13 → length e.types ≤ n
-  type_past h g = omega (arith, types_count words rows tables plan)
 
   -- any other is no enum and no struct
   none_there : Undeclared e n → (enum_exists e n ≡ false) × (struct_exists e n ≡ false)
@@ -91,9 +89,14 @@ module _ (plan words rows tables : List ℕ) (n : ℕ) where
   fields_undeclared (inl h) = rw (builtin_is words rows tables plan n h)
   fields_undeclared (inr h) = ap (λ t. field_count (fields_of t)) (sym (get_or-eq_default e.types (Builtin builtin.Bool) h))
 
-  pub count_start : (k i m : ℕ) → i ≡ get_or tables 5 0 → m ≡ get_or tables 6 0 → count_at n (map variant_of (cuts words rows i (m - i))) k ≡ field_count (variant_at e n k).fields
+  -- a variant's fields, by the row that is the k-th of its type's
+  pub count_found : (i m k : ℕ) (r : Option ℕ) → i ≡ get_or tables 5 0 → m ≡ get_or tables 6 0 → option_map (λ x. x) r ≡ slice_get (rows_of_type words rows n i (m - i)) k
+      → count_by words rows r ≡ field_count (variant_at e n k).fields
   unfolding table_rows
-  count_start k i m p q = rw (variants_are words rows tables plan, p, q) refl
+  count_found i m k r p q h = same r ∙ rw (h, count_row words rows n i (m - i) k, variants_are words rows tables plan, p, q) refl where
+    same : (r : Option ℕ) → count_by words rows r ≡ count_by words rows (option_map (λ x. x) r)
+    same None = refl
+    same (Some r) = refl
 
   pub fields_none : {index : List ℕ} (k : ℕ) → Ready words rows tables index → n < 256 → length (cut index index n) ≤ k → 0 ≡ field_count (variant_at e n k).fields
   fields_none k r h g =

@@ -1,5 +1,5 @@
 -- What refusals 5 and 6 need of the index of variants, and what they ask of one binding and one generated term. Assumes nothing: these are definitions.
-use Rattle.std.specs.Prelude.{ℕ, ◌-◌, ◌<◌, ◌≤◌, ◌⊎◌, Bool, ◌&&◌, List, eqb, ltb, length, get_or}
+use Rattle.std.specs.Prelude.{ℕ, ◌-◌, ◌≤◌, Bool, ◌&&◌, List, eqb, ltb, length, get_or}
 use Rattle.plan.specs.Plan.{Environment, Generated}
 use Rattle.plan.specs.Binding.{BindingRow}
 use Rattle.plan.specs.Refusal.{every, binding_refers, source_count, arm_length_fits}
@@ -9,10 +9,6 @@ use Rattle.variants.specs.Index.{VariantIndex}
 pub record Ready (words rows tables index : List ℕ) : Type 0 where
   pub few : get_or tables 5 0 - get_or tables 4 0 ≤ 243
   pub index_is : VariantIndex words rows tables index
-
--- the type n is a builtin, or there is none
-abbrev pub Undeclared : Environment → ℕ → Type 0
-Undeclared e n = (n < 13) ⊎ (length e.types ≤ n)
 
 -- refusal 5 of a binding: all that it names exists, of a generated term with so many arguments and n bindings
 abbrev pub binding_row_refers : Environment → ℕ → ℕ → BindingRow → Bool

@@ -1,12 +1,10 @@
 // How many rows a plan's tables have, and which of them a number stands for. Each count names its table: one function with the
 // table as its parameter is `Plan::row_count`.
-ghost use Rattle.std.specs.Prelude.{◌≡◌, true, false, ◌&&◌, ℕ, ◌<◌, [], ltb, length, get_or, MatchOption};
-ghost use Rattle.plan.specs.Lookup.{type_at};
-ghost use Rattle.plan.specs.Refusal.{is_present, type_exists, enum_exists, struct_exists, variant_exists, constructor_exists, extractor_exists};
-ghost use Rattle.rows.specs.View.{nth, function_of, type_of};
-ghost use Rattle.view.specs.Buffers.{words_of, rows_of, env_of};
+ghost use Rattle.std.specs.Prelude.{◌≡◌, true, false, ◌&&◌, ℕ, ◌<◌, [], ltb, length, get_or};
+ghost use Rattle.plan.specs.Refusal.{is_present, enum_exists, struct_exists, variant_exists, constructor_exists, extractor_exists};
+ghost use Rattle.rows.specs.View.{nth, function_of};
+ghost use Rattle.view.specs.Buffers.{rows_of, env_of};
 ghost use Rattle.view.specs.Told.{function_told};
-ghost use Rattle.exists.specs.Ready.{Undeclared};
 
 use super::indexed::Indexed;
 use literal::builtin_type::BuiltinType;
@@ -42,24 +40,12 @@ pub fn term_count(plan: &Plan<'_>) -> usize
     plan.row_count(TERMS)
 }
 
-// The row of the type n, unless it is a builtin or there is none.
-pub(crate) fn type_row(plan: &Plan<'_>, n: usize) -> Option<usize>
-    ensures { MatchOption result (Undeclared (env_of plan.now) n) (λ r. (type_exists (env_of plan.now) n ≡ true) × (type_at (env_of plan.now) n ≡ type_of (words_of plan.now r))) }
-{
-    let i = n.checked_sub(BuiltinType::COUNT)?;
-    if i < plan.row_count(TYPES) {
-        Some(plan.row_at(TYPES, i))
-    } else {
-        None
-    }
-}
-
 // Whether the type n is an enum.
 #[tactic(auto, using(crate::proofs::Sorts::enum_missing, crate::proofs::Sorts::enum_found))]
 pub fn enum_exists(plan: &Plan<'_>, n: usize) -> bool
     ensures { result ≡ enum_exists (env_of plan.now) n }
 {
-    match type_row(plan, n) {
+    match plan.type_row(n) {
         Some(r) => matches!(plan.type_at(r), TypeData::Enum(_)),
         None => false,
     }
@@ -70,7 +56,7 @@ pub fn enum_exists(plan: &Plan<'_>, n: usize) -> bool
 pub fn struct_exists(plan: &Plan<'_>, n: usize) -> bool
     ensures { result ≡ struct_exists (env_of plan.now) n }
 {
-    match type_row(plan, n) {
+    match plan.type_row(n) {
         Some(r) => matches!(plan.type_at(r), TypeData::Struct(_, _)),
         None => false,
     }

@@ -1,5 +1,5 @@
 // Refusal 5 of the types, variants and terms.
-ghost use Rattle.std.specs.Prelude.{◌≡◌, true, false, drop};
+ghost use Rattle.std.specs.Prelude.{◌≡◌, true, false};
 ghost use Rattle.plan.specs.Refusal.{fields_exist, declared_exists, function_exists, type_refers, variant_refers, term_refers};
 ghost use Rattle.rows.specs.View.{type_of, variant_of, term_of};
 ghost use Rattle.view.specs.Buffers.{words_of, env_of};
@@ -7,17 +7,18 @@ ghost use Rattle.view.specs.Told.{function_told, fields_told, declared_told};
 
 use super::counts::{enum_exists, pos_count, sym_count, type_count};
 use checks::list::{fields_below, list_below};
+use rows::kinds::Shape;
 use view::buffers::Plan;
-use view::environment::{Declared, FunctionKind, Shape, TypeData};
+use view::environment::{Declared, FunctionKind, TypeData};
 
-// Whether all that a shape's fields name exists; they are the list of row r, after `header` words.
-fn fields_exist(plan: &Plan<'_>, r: usize, header: usize, s: Shape) -> bool
-    ensures { result ≡ fields_exist (env_of plan.now) (fields_told s (drop header (words_of plan.now r))) }
+// Whether all that a shape's fields name exists; they are in a row's list.
+fn fields_exist(plan: &Plan<'_>, s: Shape, list: &[u32]) -> bool
+    ensures { result ≡ fields_exist (env_of plan.now) (fields_told s list.now) }
 {
     match s {
         Shape::Unit => true,
-        Shape::Named => fields_below(plan, r, header, sym_count(plan), type_count(plan)),
-        Shape::Tuple => list_below(plan, r, header, type_count(plan)),
+        Shape::Named => fields_below(list, sym_count(plan), type_count(plan)),
+        Shape::Tuple => list_below(list, type_count(plan)),
     }
 }
 
@@ -36,7 +37,8 @@ pub(crate) fn type_refers(plan: &Plan<'_>, r: usize) -> bool
         TypeData::Builtin(_) => true,
         TypeData::Primitive(n) => n < sym_count(plan),
         TypeData::Enum(d) => declared_exists(plan, d),
-        TypeData::Struct(d, s) => declared_exists(plan, d) && fields_exist(plan, r, 5, s),
+        TypeData::Struct(d, s) => declared_exists(plan, d)
+            && fields_exist(plan, s, plan.list(r, 5)),
     }
 }
 
@@ -46,7 +48,9 @@ pub(crate) fn variant_refers(plan: &Plan<'_>, r: usize) -> bool
     ensures { result ≡ variant_refers (env_of plan.now) (variant_of (words_of plan.now r)) }
 {
     let v = plan.variant_at(r);
-    enum_exists(plan, v.ty) && v.name < sym_count(plan) && fields_exist(plan, r, 3, v.shape)
+    enum_exists(plan, v.ty)
+        && v.name < sym_count(plan)
+        && fields_exist(plan, v.shape, plan.list(r, 3))
 }
 
 fn function_exists(plan: &Plan<'_>, f: FunctionKind) -> bool
@@ -70,5 +74,5 @@ pub(crate) fn term_refers(plan: &Plan<'_>, r: usize) -> bool
         && m.ret_ty < types
         && function_exists(plan, m.ctor)
         && function_exists(plan, m.xtor)
-        && list_below(plan, r, 8, types)
+        && list_below(plan.list(r, 8), types)
 }

@@ -70,7 +70,7 @@ fn binding_row_refers(indexed: &Indexed<'_>, args: usize, n: usize, r: usize) ->
     ensures { result ≡ binding_row_refers (env_of indexed.now.plan) args n (binding_of (words_of indexed.now.plan r)) }
 {
     let b = indexed.plan.binding_at(r);
-    binding_refers(indexed, args, b) && list_below(&indexed.plan, r, 6, n)
+    binding_refers(indexed, args, b) && list_below(indexed.plan.list(r, 6), n)
 }
 
 #[tactic(auto, unfolding(plan::specs::Refusal::row_refers, rows::specs::View::block_of))]
@@ -79,9 +79,9 @@ fn block_row_refers(indexed: &Indexed<'_>, n: usize, r: usize) -> bool
 {
     let plan = &indexed.plan;
     if plan.is_step(r) {
-        control_flow_refers(plan, n, plan.control_flow_at(r)) && list_below(plan, r, 7, n)
+        control_flow_refers(plan, n, plan.control_flow_at(r)) && list_below(plan.list(r, 7), n)
     } else {
-        constraint_refers(indexed, plan.constraint_at(r)) && patterns_below(plan, r, n)
+        constraint_refers(indexed, plan.constraint_at(r)) && patterns_below(plan.list(r, 7), n)
     }
 }
 
@@ -105,7 +105,7 @@ fn generated_refers(indexed: &Indexed<'_>, g: GeneratedTables) -> bool
 {
     let plan = &indexed.plan;
     let m = plan.word(plan.row_at(g.term, 0), 0);
-    let args = plan.list_len(plan.row_at(TERMS, m), 8);
+    let args = plan.list(plan.row_at(TERMS, m), 8).len();
     constructor_exists(plan, m) && rows_refer(indexed, g, args, plan.row_count(g.bindings))
 }
 

@@ -8,7 +8,6 @@ ghost use Rattle.view.specs.Told.{binding_told, constraint_told};
 ghost use Rattle.checks.specs.Tests.{generated_of};
 ghost use Rattle.exists.specs.Ready.{binding_length_fits, generated_fits};
 
-use super::counts::type_row;
 use super::indexed::Indexed;
 use checks::tables::{GeneratedTables, all_generated, all_rows};
 use view::binding::Binding;
@@ -21,7 +20,7 @@ use view::tables::{TERMS, VARIANTS};
 fn struct_fields(plan: &Plan<'_>, n: usize) -> usize
     ensures { result ≡ field_count (fields_of (type_at (env_of plan.now) n)) }
 {
-    match type_row(plan, n) {
+    match plan.type_row(n) {
         Some(r) => plan.type_field_count(r),
         None => 0,
     }
@@ -31,16 +30,13 @@ fn struct_fields(plan: &Plan<'_>, n: usize) -> usize
 fn scan_fields(plan: &Plan<'_>, n: usize, k: usize) -> usize
     ensures { result ≡ field_count (variant_at (env_of plan.now) n k).fields }
 {
-    let mut left = k;
-    for r in plan.first_row(VARIANTS)..plan.end_row(VARIANTS) {
-        if plan.word(r, 0) == n {
-            if left == 0 {
-                return plan.variant_field_count(r);
-            }
-            left -= 1;
-        }
+    let of_type = (plan.first_row(VARIANTS)..plan.end_row(VARIANTS))
+        .filter(|r| plan.word(*r, 0) == n)
+        .nth(k);
+    match of_type {
+        Some(r) => plan.variant_field_count(r),
+        None => 0,
     }
-    0
 }
 
 // How many fields the variant k of the type n has.
@@ -68,7 +64,7 @@ fn source_count(indexed: &Indexed<'_>, b: Binding) -> usize
         | Binding::ConstInt { .. }
         | Binding::ConstPrim { .. }
         | Binding::Argument { .. } => 0,
-        Binding::Constructor { term } => plan.list_len(plan.row_at(TERMS, term), 8),
+        Binding::Constructor { term } => plan.list(plan.row_at(TERMS, term), 8).len(),
         Binding::MakeVariant { ty, variant } => variant_fields(indexed, ty, variant),
         Binding::MakeStruct { ty } => struct_fields(plan, ty),
         _ => 1,
@@ -94,7 +90,7 @@ fn binding_fits(indexed: &Indexed<'_>, r: usize) -> bool
     ensures { result ≡ binding_length_fits (env_of indexed.now.plan) (binding_of (words_of indexed.now.plan r)) }
 {
     let b = indexed.plan.binding_at(r);
-    indexed.plan.list_len(r, 6) == source_count(indexed, b)
+    indexed.plan.list(r, 6).len() == source_count(indexed, b)
 }
 
 // Whether row r is a step, or its list has the length that its arm asks for.
@@ -103,7 +99,7 @@ fn arm_fits(indexed: &Indexed<'_>, r: usize) -> bool
     ensures { result ≡ arm_length_fits (env_of indexed.now.plan) (block_of (words_of indexed.now.plan r)) }
 {
     let plan = &indexed.plan;
-    plan.is_step(r) || plan.list_len(r, 7) == pattern_count(indexed, plan.constraint_at(r))
+    plan.is_step(r) || plan.list(r, 7).len() == pattern_count(indexed, plan.constraint_at(r))
 }
 
 // Whether the lists of a generated term's bindings and block have the lengths that are asked for.

@@ -14,7 +14,7 @@ use Rattle.expr.specs.Call.{called, called_told}
 pub after_other : (k : Binding) (e : Environment) {r : Option ExternalSig} → called_told e r ≡ called e (binding_told k) → r ≡ None → ((n v : ℕ) → k ≡ b.MakeVariant n v → ⊥) → ((n : ℕ) → k ≡ b.MakeStruct n → ⊥)
     → (i q : ℕ) (given : Bool) → after_source e (binding_told k) i q given ≡ after_one (binding_told k) q
 after_other (b.ConstBool x) e c n v s i q given = refl
-after_other (b.ConstInt x y z) e c n v s i q given = refl
+after_other (b.ConstInt x y) e c n v s i q given = refl
 after_other (b.ConstPrim x) e c n v s i q given = refl
 after_other (b.Argument x) e c n v s i q given = refl
 after_other (b.Extractor x) e c n v s i q given = absurd (none-some _ (sym (ap (called_told e) n) ∙ c))

@@ -6,13 +6,13 @@ use mathlib.Core.List.{List}
 use native.Mathlib.Nat.{add-zero}
 use native.Mathlib.Omega.{arith}
 use lib.ListN.{length, get_or}
-use Rattle.std.specs.Prelude.{Some, None}
+use Rattle.std.specs.Prelude.{Option, Some, None}
 use Rattle.text.specs.declared.sink.Sink.{Sink}
 use Rattle.plan.specs.Plan.{Environment}
 use Rattle.plan.specs.Binding.{Binding, ConstBool, ConstInt, ConstPrim, Argument, Extractor, Constructor, Iterator, MakeVariant, MakeStruct, MakeSome, MatchSome, MatchTuple, MatchVariant, ExtractStruct}
 use Rattle.codegen.specs.Writer.{Marks, contains, Writer, ◌▸◌}
 use Rattle.codegen.specs.Expr.{emit_below, emit_expr}
-use Rattle.view.specs.Buffers.{env_of}
+use Rattle.view.specs.Buffers.{env_of, bindings_in}
 use Rattle.view.specs.declared.buffers.Plan.{Plan}
 use Rattle.emits.specs.Runs.{Emits, Rest, ◌⟫◌, emits_ask, emits_past}
 use Rattle.sema.specs.Holds.{VariantsIndexed}
@@ -20,11 +20,11 @@ use Rattle.splitting.specs.Cases.{by_leb}
 use Rattle.consts.specs.EmitsLaws.{emits_same}
 use Rattle.expr_parts.specs.Sources.{one_source}
 use Rattle.expr_parts.proofs.Laws.{emits_nothing}
-use Rattle.expr.specs.Between.{row_of, source_count, inner, turns, up_to}
+use Rattle.expr.specs.Between.{row_of, source_count, inner, turns}
 use Rattle.expr.specs.Lower.{Lower}
 use Rattle.expr.specs.declared.between.Source.{Source}
 use Rattle.expr.specs.Next.{HasNoName, StepIs}
-use Rattle.expr.specs.Writes.{bindings_at, below, Ready, Writes, Leaves, rest_of}
+use Rattle.expr.specs.Writes.{below, UpTo, Ready, Writes, Leaves, rest_of}
 use Rattle.expr.proofs.Turns.{Same, same_start, same_turn, inner_plus}
 
 -- READY
@@ -82,6 +82,11 @@ rest_after : {env : Environment} {d : ℕ} {v₀ : Writer} {w₀ : Sink} {r₀ :
 rest_after {r = r} h g p = record { ends = λ w' r' s. g.ends w' r' (emits_same (h.is r) (p ⟫ s)) }
 
 module _ (p : Plan) (bound : Marks) (t depth b : ℕ) where
+  -- no binding has as many sources as no number counts
+  pub none_there : (i : ℕ) (w : Sink) (next : Option Source) → 18446744073709551615 - i ≡ 0 → StepIs p bound t depth b i w next → StepIs p bound t depth b i w None
+  none_there i w None g s = s
+  none_there i w (Some x) g s = absurd (omega (arith, g, s.1.small))
+
   -- no source is left
   module _ (i : ℕ) (w : Sink) (s : StepIs p bound t depth b i w None) where
     counted : (d₀ d k : ℕ) → Ready p t depth (suc b) b d₀ d k → HasNoName bound b w → source_count (env_of p) (row_of p t b).binding (row_of p t b).sources ≤ i
@@ -101,7 +106,7 @@ module _ (p : Plan) (bound : Marks) (t depth b : ℕ) where
       -- source i, and up to the next
       pub leaves_turn : (s : Source) {given : Bool} {w₂ : Sink} {r₂ : Marks} {w₃ : Sink} {r₃ : Marks} → StepIs p bound t depth b i w₁ (Some s) → contains r₁ s.binding ≡ given
           → Writes p bound t s.depth (suc s.binding) (suc s.binding) (λ rec d. rec d s.binding) w₁ r₁ w₂ r₂
-          → (VariantsIndexed p → (d₀ d : ℕ) → depth ≡ d₀ + d → depth < 4611686018427387904 → Emits (env_of p) d₀ (up_to (env_of p) bound d b (row_of p t b).binding (row_of p t b).sources (i + 1) given) w₂ r₂ w₃ r₃)
+          → UpTo p bound t depth b (i + 1) given w₂ r₂ w₃ r₃
           → Leaves p bound t depth (suc b) b (rest_of p bound t b 0) w r (rest_of p bound t b (i + 1)) w₃ r₃
       leaves_turn s {given} n m q u = record {
         is = λ d₀ d k h.
@@ -124,7 +129,7 @@ module _ (p : Plan) (bound : Marks) (t depth b : ℕ) where
 
         -- from the start
         pub writes_done : {w₀ : Sink} {r₀ : Marks}
-            → (VariantsIndexed p → (d₀ d : ℕ) → depth ≡ d₀ + d → depth < 4611686018427387904 → Emits (env_of p) d₀ (up_to (env_of p) bound d b (row_of p t b).binding (row_of p t b).sources 0 false) w₀ r₀ w r)
+            → UpTo p bound t depth b 0 false w₀ r₀ w r
             → Writes p bound t depth (suc b) (suc b) (λ rec d. rec d b) w₀ r₀ w₁ r₁
         unfolding emit_below
         writes_done {w₀} {r₀} u = record { is = go }
@@ -138,7 +143,7 @@ module _ (p : Plan) (bound : Marks) (t depth b : ℕ) where
 
 -- A WHOLE EXPRESSION
 
-pub writes_expr : {p : Plan} {bound : Marks} {t depth b : ℕ} {w : Sink} {r : Marks} {w' : Sink} {r' : Marks} → VariantsIndexed p → Lower (bindings_at p t) → depth + b < 4611686018427387904
-    → Writes p bound t depth (suc b) (suc b) (λ rec d. rec d b) w r w' r' → Emits (env_of p) depth (emit_expr (env_of p) (bindings_at p t) bound b) w r w' r'
+pub writes_expr : {p : Plan} {bound : Marks} {t depth b : ℕ} {w : Sink} {r : Marks} {w' : Sink} {r' : Marks} → VariantsIndexed p → Lower (bindings_in p t) → depth + b < 4611686018427387904
+    → Writes p bound t depth (suc b) (suc b) (λ rec d. rec d b) w r w' r' → Emits (env_of p) depth (emit_expr (env_of p) (bindings_in p t) bound b) w r w' r'
 unfolding emit_expr
 writes_expr {depth = depth} {b = b} h l g q = q.is depth 0 (suc b) (record { indexed = h; lower = l; deep = sym (add-zero depth); room = omega arith; fuel = omega arith })

@@ -5,6 +5,7 @@ use mathlib.Core.Bool.{Bool, true, false, cond, not, ◌&&◌}
 use Rattle.std.specs.Prelude.{Option, Some, None}
 use mathlib.Core.List.{List, [], ◌∷◌, ◌++◌, append_assoc, append-nil}
 use native.Mathlib.Omega.{arith}
+use lib.Dec.{eqb}
 use lib.ListN.{length, get_or, drop}
 use Rattle.text.specs.Codes.{codes}
 use Rattle.text.specs.Digits.{decimal}
@@ -231,9 +232,9 @@ unfolding odd_pieces odd_piece
 emits_name p = emits_say refl (shows_var_put p shows_none)
 
 -- the line after fields
-pub emits_closed : {env : Environment} {d : ℕ} {w : Sink} {r : Marks} (d' : ℕ) (qs : List ℕ) {w₁ w₂ w' : Sink} → (length qs ≡ 0 → ⊥) → Writes (10 ∷ []) w w₁ → Writes (indent (d + d')) w₁ w₂ → Writes (codes "}") w₂ w' → Emits env d (closes d' qs) w r w' r
+pub emits_closed : {env : Environment} {d : ℕ} {w : Sink} {r : Marks} (d' : ℕ) (qs : List ℕ) {w₁ w₂ w' : Sink} → eqb (length qs) 0 ≡ false → Writes (10 ∷ []) w w₁ → Writes (indent (d + d')) w₁ w₂ → Writes (codes "}") w₂ w' → Emits env d (closes d' qs) w r w' r
 unfolding odd_pieces odd_piece
-emits_closed d' [] h p i s = absurd (h refl)
+emits_closed d' [] h p i s = cc
 emits_closed d' (q ∷ qs) h p i s = emits_say refl (shows_break p i (shows_unbrace s shows_none))
 
 -- by the row of a binding that has no name

@@ -8,7 +8,7 @@ pub mod call;
 
 ghost use Rattle.std.specs.Prelude.{◌+◌, ◌<◌, ◌≡◌};
 ghost use Rattle.codegen.specs.Expr.{emit_expr, emit_source, wants_ref};
-ghost use Rattle.view.specs.Buffers.{env_of, generated_in};
+ghost use Rattle.view.specs.Buffers.{env_of, bindings_in};
 ghost use Rattle.view.specs.Told.{constraint_told};
 ghost use Rattle.emits.specs.Marks.{set_of};
 ghost use Rattle.emits.specs.Runs.{Emits};
@@ -16,25 +16,31 @@ ghost use Rattle.sema.specs.Holds.{VariantsIndexed};
 ghost use Rattle.expr.specs.Lower.{Lower};
 
 use below::emit_below;
+use between::Scope;
 use emits::stablemapset::contains;
 use expr_parts::put_borrow;
 use text::sink::Sink;
 use view::block::Constraint;
 use view::buffers::Plan;
 
-// The expression of binding b, in the generated term whose first table is t, where the line that it stands on is `depth` deep.
+// The expression of binding b of the table `bindings`, where the line that it stands on is `depth` deep.
 pub fn emit_expr(
     w: &mut Sink<'_>,
     plan: &Plan<'_>,
     refs: &mut [bool],
     bound: &[bool],
-    t: usize,
+    bindings: usize,
     depth: usize,
     b: usize,
 )
-    ensures { VariantsIndexed plan.now → let env = env_of plan.now in let bs = (generated_in plan.now t).bindings in Lower bs → depth + b < 4611686018427387904 → Emits env depth (emit_expr env bs (set_of bound.now) b) w.old (set_of refs.old) w.new (set_of refs.new) }
+    ensures { VariantsIndexed plan.now → let env = env_of plan.now in let bs = bindings_in plan.now bindings in Lower bs → depth + b < 4611686018427387904 → Emits env depth (emit_expr env bs (set_of bound.now) b) w.old (set_of refs.old) w.new (set_of refs.new) }
 {
-    emit_below(w, plan, refs, bound, t, depth, b);
+    let scope = Scope {
+        plan,
+        bound,
+        bindings,
+    };
+    emit_below(w, refs, &scope, depth, b);
 }
 
 // A pattern of a variant or a struct wants a reference.
@@ -50,13 +56,13 @@ pub fn emit_source(
     plan: &Plan<'_>,
     refs: &mut [bool],
     bound: &[bool],
-    t: usize,
+    bindings: usize,
     depth: usize,
     q: usize,
     c: Constraint,
 )
-    ensures { VariantsIndexed plan.now → let env = env_of plan.now in let bs = (generated_in plan.now t).bindings in Lower bs → depth + q < 4611686018427387904 → Emits env depth (emit_source env bs (set_of bound.now) q (constraint_told c)) w.old (set_of refs.old) w.new (set_of refs.new) }
+    ensures { VariantsIndexed plan.now → let env = env_of plan.now in let bs = bindings_in plan.now bindings in Lower bs → depth + q < 4611686018427387904 → Emits env depth (emit_source env bs (set_of bound.now) q (constraint_told c)) w.old (set_of refs.old) w.new (set_of refs.new) }
 {
     put_borrow(w, wants_ref(c), contains(refs, q));
-    emit_expr(w, plan, refs, bound, t, depth, q);
+    emit_expr(w, plan, refs, bound, bindings, depth, q);
 }

@@ -26,10 +26,8 @@ use Rattle.codegen.specs.Writer.{contains}
 use Rattle.codegen.specs.ReturnKind as kind
 use Rattle.codegen.specs.ReturnKind.{ReturnKind, by_return_kind}
 use Rattle.codegen.specs.Sema.{is_external, extractor_sig, constructor_sig}
-use Rattle.rows.specs.View.{nth, flagged, term_of, binding_of}
-use Rattle.view.specs.Buffers.{rows_of, env_of}
-use Rattle.view.specs.declared.buffers.Plan.{Plan}
-use Rattle.view.proofs.Plans.{term_is}
+use Rattle.rows.specs.View.{nth, binding_of}
+use Rattle.view.specs.Buffers.{rows_of}
 use Rattle.emits.specs.Marks.{set_of}
 use Rattle.checks.proofs.Blocks.{binding_is}
 use Rattle.splitting.specs.Cases.{and_left, and_right}
@@ -42,10 +40,6 @@ use Rattle.expr_faults.specs.declared.written.Bindings.{Bindings}
 use Rattle.expr_faults.specs.declared.written.Question.{Question}
 
 -- TERMS
-
-pub multi_is : (p : Plan) (m : ℕ) → flagged (nth (get_or (rows_of p 6) m []) 3) ≡ (term_at (env_of p) m).multi
-unfolding term_of
-multi_is p m = ap (λ (t : Term). t.multi) (sym (term_is p.words.now p.rows.now p.tables.now p.bytes.now m))
 
 iterator_first : (a b : Bool) (x y z : ReturnKind) → by_return_kind x true false false ≡ true → by_return_kind y true false false ≡ false → by_return_kind z true false false ≡ false → by_return_kind (cond a x (cond b y z)) true false false ≡ a
 iterator_first true b x y z h g k = h
@@ -69,7 +63,7 @@ many_called e x m (inr h) = rw h (constructor_many (term_at e m))
 pub many_other : (e : Environment) (x : Binding) → ((m : ℕ) → x ≡ b.Extractor m → ⊥) → ((m : ℕ) → x ≡ b.Constructor m → ⊥) → returns_many e (binding_told x) ≡ false
 unfolding returns_many
 many_other e (b.ConstBool v) h g = refl
-many_other e (b.ConstInt ty high low) h g = refl
+many_other e (b.ConstInt ty val) h g = refl
 many_other e (b.ConstPrim v) h g = refl
 many_other e (b.Argument i) h g = refl
 many_other e (b.Extractor m) h g = absurd (h m refl)

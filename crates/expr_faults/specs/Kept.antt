@@ -1,13 +1,11 @@
 -- What is asked of a written expression, and what is kept of the answers. Assumes nothing: these are definitions.
-use Rattle.std.specs.Prelude.{ℕ, suc, ◌≤◌, ◌<◌, ◌≡◌, Bool, true, false, not, ◌&&◌, List, [], map, get_or, Option, Some, None}
+use Rattle.std.specs.Prelude.{ℕ, suc, ◌≤◌, ◌<◌, ◌≡◌, Bool, true, false, not, ◌&&◌, List, [], get_or, Option, Some, None}
 use denote.Bor.{Bor}
 use Rattle.plan.specs.Plan.{Environment}
 use Rattle.plan.specs.Binding.{BindingRow}
 use Rattle.plan.specs.Lookup.{binding_at}
 use Rattle.codegen.specs.Writer.{Marks, contains}
-use Rattle.rows.specs.View.{binding_of}
-use Rattle.view.specs.Buffers.{rows_of, env_of}
-use Rattle.view.specs.declared.buffers.Plan.{Plan}
+use Rattle.view.specs.Buffers.{env_of, bindings_in}
 use Rattle.emits.specs.Marks.{set_of}
 use Rattle.schedule_rules.specs.Faults.{returns_many}
 use Rattle.schedule_rules.specs.Found.{Lower, found}
@@ -15,10 +13,7 @@ use Rattle.expr_faults.specs.declared.kept.Kept.{Kept}
 use Rattle.expr_faults.specs.declared.written.Bindings.{Bindings}
 use Rattle.expr_faults.specs.declared.written.Question.{Question}
 
--- the bindings of table t
-abbrev pub bindings_in : Plan → ℕ → List BindingRow
-bindings_in p t = map binding_of (rows_of p t)
-
+-- those of the table of a generated term
 abbrev pub bindings_of : Bindings → List BindingRow
 bindings_of s = bindings_in s.plan.now s.table
 

@@ -34,10 +34,7 @@ impl Kept<'_> {
     pub(super) fn of(&self, b: usize) -> u32
         ensures { result ≡ get_or self.now.answers.now b 0 }
     {
-        if b < self.answers.len() {
-            return self.answers[b];
-        }
-        0
+        self.answers.get(b).copied().unwrap_or(0)
     }
 
     // The answer for binding b is kept, if it has a place.
@@ -46,13 +43,8 @@ impl Kept<'_> {
         ensures number { self.new.number ≡ self.old.number }
         ensures answers { self.new.answers.now ≡ set self.old.answers.now b (cond yes (suc self.old.number) self.old.number) }
     {
-        if self.answers.len() <= b {
-            return;
+        if b < self.answers.len() {
+            self.answers[b] = self.number + u32::from(yes);
         }
-        if yes {
-            self.answers[b] = self.number + 1;
-            return;
-        }
-        self.answers[b] = self.number;
     }
 }

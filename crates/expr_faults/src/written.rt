@@ -1,6 +1,6 @@
 // Questions about the written expressions of the bindings of a table.
 ghost use Rattle.std.specs.Prelude.{◌≡◌, ◌<◌};
-ghost use Rattle.plan.specs.Lookup.{binding_at, term_at};
+ghost use Rattle.plan.specs.Lookup.{binding_at};
 ghost use Rattle.rows.specs.View.{binding_of};
 ghost use Rattle.view.specs.Buffers.{words_of, env_of};
 ghost use Rattle.schedule_rules.specs.Faults.{any, returns_many};
@@ -10,7 +10,6 @@ use super::kept::Kept;
 use emits::stablemapset::contains;
 use view::binding::Binding;
 use view::buffers::Plan;
-use view::tables::TERMS;
 
 // The bindings of a generated term: those of this table.
 #[derive(Clone, Copy)]
@@ -27,21 +26,13 @@ pub struct Question<'a> {
     pub before: Option<&'a [bool]>,
 }
 
-// Whether the term of row m of the term table returns many.
-#[tactic(auto, using(crate::proofs::Laws::multi_is))]
-fn is_multi(plan: &Plan<'_>, m: usize) -> bool
-    ensures { result ≡ (term_at (env_of plan.now) m).multi }
-{
-    plan.flag(plan.row_at(TERMS, m), 3)
-}
-
 // Whether row r, a binding's, is a call that returns many: `extract` or `construct` of such a term.
 #[tactic(auto, using(crate::proofs::Laws::many_called, crate::proofs::Laws::many_other))]
 fn returns_many(plan: &Plan<'_>, r: usize) -> bool
     ensures { result ≡ returns_many (env_of plan.now) (binding_of (words_of plan.now r)).binding }
 {
     match plan.binding_at(r) {
-        Binding::Extractor { term } | Binding::Constructor { term } => is_multi(plan, term),
+        Binding::Extractor { term } | Binding::Constructor { term } => plan.is_multi(term),
         _ => false,
     }
 }

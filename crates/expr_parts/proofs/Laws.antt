@@ -1,15 +1,13 @@
 -- Pieces among which no literal is odd, what is written with marks, and how a binding's row stands in the tables. Assumes nothing.
-use Rattle.std.specs.Prelude.{◌≡◌, refl, Bool, true, false, cond, not, ◌&&◌, List, [], ◌∷◌, ◌++◌, ℕ, ◌+◌, ◌≤◌, length, get_or}
+use Rattle.std.specs.Prelude.{◌≡◌, refl, Bool, true, false, cond, not, ◌&&◌, List, [], ◌∷◌, ◌++◌, ℕ, length, get_or}
 use Rattle.std.proofs.Common.{sym, ap, ◌∙◌, arith}
 use lib.ListN.{get_or-map}
 use Rattle.text.specs.declared.sink.Sink.{Sink}
 use Rattle.plan.specs.Plan.{Fields, unit, named, tuple, FunctionKind, absent, internal, external, Term, Environment}
 use Rattle.plan.specs.Lookup.{binding_at}
 use Rattle.rows.specs.View.{binding_made, binding_of}
-use Rattle.view.specs.Tables.{table_rows, generated_at}
-use Rattle.view.specs.Buffers.{words_of, rows_of, generated_in}
+use Rattle.view.specs.Buffers.{words_of, rows_of, bindings_in}
 use Rattle.view.specs.declared.buffers.Plan.{Plan}
-use Rattle.view.proofs.Laws.{past, cut_past, cuts_none}
 use Rattle.codegen.specs.Piece.{Piece, fix, var, break, odd_piece, odd_pieces}
 use Rattle.codegen.specs.ReturnKind.{ReturnKind, by_return_kind}
 use Rattle.codegen.specs.ReturnKind as kind
@@ -98,16 +96,6 @@ returns_first env ts n ty b h k q p = p ∙ ap (is_ref env) q ∙ returns_one en
 
 module _ (p : Plan) where
   -- the row of binding b
-  pub binding_is : (t b r : ℕ) → words_of p r ≡ get_or (rows_of p (t + 1)) b [] → binding_of (words_of p r) ≡ binding_at (generated_in p t).bindings b
-  unfolding generated_at binding_of binding_made
-  binding_is t b r h = ap binding_of h ∙ sym (get_or-map binding_of (rows_of p (t + 1)) b [])
-
--- a table that doesn't exist
-pub row_past : (p : Plan) (t b : ℕ) → length p.tables.now ≤ t → words_of p (length p.rows.now) ≡ get_or (rows_of p (t + 1)) b []
-unfolding table_rows
-row_past p t b h =
-    let words = p.words.now in
-    let rows = p.rows.now in
-    let tables = p.tables.now in
-    cut_past words rows (length rows) (omega arith)
-    ∙ sym (ap (λ (l : List (List ℕ)). get_or l b []) (cuts_none words rows (get_or tables (t + 1) 0) (get_or tables (t + 1 + 1) 0) (rw (← past tables (t + 1) (omega arith), ← past tables (t + 1 + 1) (omega arith)) (omega arith))))
+  pub binding_is : (t b r : ℕ) → words_of p r ≡ get_or (rows_of p t) b [] → binding_of (words_of p r) ≡ binding_at (bindings_in p t) b
+  unfolding binding_of binding_made
+  binding_is t b r h = ap binding_of h ∙ sym (get_or-map binding_of (rows_of p t) b [])

@@ -1,14 +1,8 @@
 -- The sources of bindings: which kinds have one, and what stands after it. Assumes nothing: these are definitions.
-use Rattle.std.specs.Prelude.{ℕ, refl, Bool, true, false, cond, List, [], ◌∷◌, drop}
+use Rattle.std.specs.Prelude.{ℕ, refl, Bool, true, false, cond, [], ◌∷◌}
 use Rattle.plan.specs.Binding.{Binding, ConstBool, ConstInt, ConstPrim, Argument, Extractor, Constructor, Iterator, MakeVariant, MakeStruct, MakeSome, MatchSome, MatchTuple, MatchVariant, ExtractStruct}
 use Rattle.codegen.specs.Piece.{fix, num}
 use Rattle.codegen.specs.Writer.{Writer, say, ask, nothing}
-use Rattle.view.specs.Buffers.{words_of}
-use Rattle.view.specs.declared.buffers.Plan.{Plan}
-
--- the sources of the binding of row r
-abbrev pub sources_in : Plan → ℕ → List ℕ
-sources_in p r = drop 6 (words_of p r)
 
 -- the kinds whose only source is written between fixed texts
 abbrev pub one_source : Binding → Bool

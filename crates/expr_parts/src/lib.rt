@@ -8,14 +8,14 @@ ghost use Rattle.codegen.specs.ReturnKind.{by_return_kind};
 ghost use Rattle.codegen.specs.Sema.{field_name};
 ghost use Rattle.codegen.specs.Writer.{say, mark, ask, ◌▸◌, nothing};
 ghost use Rattle.codegen.specs.Expr.{returns_ref};
-ghost use Rattle.view.specs.Buffers.{words_of, rows_of, env_of};
+ghost use Rattle.view.specs.Buffers.{env_of};
 ghost use Rattle.view.specs.Told.{binding_told};
 ghost use Rattle.emits.specs.Marks.{set_of};
 ghost use Rattle.emits.specs.Runs.{Emits};
 ghost use Rattle.emits.specs.Sinks.{Shows};
 ghost use Rattle.sema.specs.Fields.{fields_read};
 ghost use Rattle.sema.specs.Signature.{sig_told};
-ghost use Rattle.expr_parts.specs.Sources.{sources_in, after_one};
+ghost use Rattle.expr_parts.specs.Sources.{after_one};
 
 use consts::pieces::put_var;
 use emits::stablemapset::{contains, insert};
@@ -29,18 +29,6 @@ use view::buffers::Plan;
 
 // How many words stand before the sources in a binding's row.
 pub const SOURCES: usize = 6;
-
-// The row of binding b of the generated term whose first table is t; where there is none, a number that no row has.
-#[tactic(auto, using(crate::proofs::Laws::row_past))]
-pub fn binding_row(plan: &Plan<'_>, t: usize, b: usize) -> usize
-    ensures { words_of plan.now result ≡ get_or (rows_of plan.now (t + 1)) b [] }
-{
-    if t < plan.tables.len() {
-        plan.row_at(t + 1, b)
-    } else {
-        plan.rows.len()
-    }
-}
 
 pub fn const_prim(w: &mut Sink<'_>, plan: &Plan<'_>, val: usize)
     ensures { let env = env_of plan.now in (d : ℕ) → Shows env d (sym val ∷ []) w.old w.new }
@@ -57,7 +45,8 @@ pub fn argument(w: &mut Sink<'_>, i: usize)
 
 // After the source of `MatchSome`: `?` on a reference needs `.as_ref()`.
 fn put_try(w: &mut Sink<'_>, refs: &[bool], q: usize)
-    ensures { (env : Environment) (d : ℕ) → Emits env d (ask q (λ x. say (cond x (fix ".as_ref()?" refl) (fix "?" refl) ∷ []))) w.old (set_of refs.now) w.new (set_of refs.now) }
+    ensures emits { (env : Environment) (d : ℕ) → Emits env d (ask q (λ x. say (cond x (fix ".as_ref()?" refl) (fix "?" refl) ∷ []))) w.old (set_of refs.now) w.new (set_of refs.now) }
+    ensures odd { w.new.odd ≡ w.old.odd }
 {
     if contains(refs, q) {
         w.put_bytes(b".as_ref()?");
@@ -68,7 +57,8 @@ fn put_try(w: &mut Sink<'_>, refs: &[bool], q: usize)
 
 // After a source's `.` the field's number. Like `argument` and `put_var`, a text and a number.
 fn put_field(w: &mut Sink<'_>, field: usize)
-    ensures { (env : Environment) (d : ℕ) → Shows env d (fix "." refl ∷ num field ∷ []) w.old w.new }
+    ensures shows { (env : Environment) (d : ℕ) → Shows env d (fix "." refl ∷ num field ∷ []) w.old w.new }
+    ensures odd { w.new.odd ≡ w.old.odd }
 {
     w.put_bytes(b".");
     w.put_decimal(field as u64);
@@ -76,7 +66,8 @@ fn put_field(w: &mut Sink<'_>, field: usize)
 
 // These kinds are not supposed to be written: codegen.rs has the generated text fail to compile.
 fn put_fixme_field(w: &mut Sink<'_>, field: usize)
-    ensures { (env : Environment) (d : ℕ) → Shows env d (fix "." refl ∷ num field ∷ fix " /*FIXME*/" refl ∷ []) w.old w.new }
+    ensures shows { (env : Environment) (d : ℕ) → Shows env d (fix "." refl ∷ num field ∷ fix " /*FIXME*/" refl ∷ []) w.old w.new }
+    ensures odd { w.new.odd ≡ w.old.odd }
 {
     put_field(w, field);
     w.put_bytes(b" /*FIXME*/");
@@ -84,7 +75,8 @@ fn put_fixme_field(w: &mut Sink<'_>, field: usize)
 
 // What stands after the source of a kind that has one.
 pub fn put_after(w: &mut Sink<'_>, refs: &[bool], q: usize, k: Binding)
-    ensures { (env : Environment) (d : ℕ) → Emits env d (after_one (binding_told k) q) w.old (set_of refs.now) w.new (set_of refs.now) }
+    ensures emits { (env : Environment) (d : ℕ) → Emits env d (after_one (binding_told k) q) w.old (set_of refs.now) w.new (set_of refs.now) }
+    ensures odd { w.new.odd ≡ w.old.odd }
 {
     match k {
         Binding::Iterator => w.put_bytes(b".next() /*FIXME*/"),
@@ -141,7 +133,8 @@ fn returns_ref(plan: &Plan<'_>, sig: ExternalSig) -> bool
 
 // A result that is a reference is marked, and `&` written.
 pub fn mark_result(w: &mut Sink<'_>, plan: &Plan<'_>, refs: &mut [bool], b: usize, sig: ExternalSig)
-    ensures { let env = env_of plan.now in (d : ℕ) → Emits env d (cond (returns_ref env (sig_told env sig).ret_tys) (mark b ▸ say (fix "&" refl ∷ [])) nothing) w.old (set_of refs.old) w.new (set_of refs.new) }
+    ensures emits { let env = env_of plan.now in (d : ℕ) → Emits env d (cond (returns_ref env (sig_told env sig).ret_tys) (mark b ▸ say (fix "&" refl ∷ [])) nothing) w.old (set_of refs.old) w.new (set_of refs.new) }
+    ensures odd { w.new.odd ≡ w.old.odd }
 {
     if returns_ref(plan, sig) {
         insert(refs, b);
@@ -150,10 +143,10 @@ pub fn mark_result(w: &mut Sink<'_>, plan: &Plan<'_>, refs: &mut [bool], b: usiz
 }
 
 // How many parameters a call writes: as many as there are both sources and types.
-pub fn parameter_count(plan: &Plan<'_>, row: usize, sig: ExternalSig) -> usize
-    ensures { result ≡ min (length (sources_in plan.now row)) (length (sig_told (env_of plan.now) sig).param_tys) }
+pub fn parameter_count(plan: &Plan<'_>, sources: &[u32], sig: ExternalSig) -> usize
+    ensures { result ≡ min (length sources.now) (length (sig_told (env_of plan.now) sig).param_tys) }
 {
-    plan.list_len(row, SOURCES).min(sig.param_count(plan))
+    sources.len().min(sig.param_count(plan))
 }
 
 // The end of a call: an iterator's takes the binding's own name.
@@ -169,8 +162,8 @@ pub fn put_call_end(w: &mut Sink<'_>, b: usize, sig: ExternalSig)
 }
 
 // The line of field i up to its value.
-pub fn field_head(w: &mut Sink<'_>, plan: &Plan<'_>, depth: usize, f: Fields, i: usize)
-    ensures { let env = env_of plan.now in (d₀ d : ℕ) → depth ≡ d₀ + d → Shows env d₀ (break d ∷ field_name (fields_read plan.now f) i ∷ fix ": " refl ∷ []) w.old w.new }
+pub fn field_head(w: &mut Sink<'_>, plan: &Plan<'_>, depth: usize, f: &Fields<'_>, i: usize)
+    ensures { let env = env_of plan.now in (d₀ d : ℕ) → depth ≡ d₀ + d → Shows env d₀ (break d ∷ field_name (fields_read f.now) i ∷ fix ": " refl ∷ []) w.old w.new }
 {
     w.put_byte(b'\n');
     w.put_indent(depth);

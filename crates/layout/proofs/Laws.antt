@@ -41,12 +41,12 @@ module _ (old new : List ℕ) (k hi : ℕ) (room : k + hi ≤ length old) where
       let q : m ≡ k + length ws = cc g.0 in
       ((q, rw q g.1), omega arith)
 
-module _ (old new : List ℕ) (k sort from : ℕ) (line : List ℕ) (r : rust.Option ℕ) (some_byte : 0 < length line) (room : k + (length line + 1) ≤ length old) (wrote : Wrote old (Some k) (row_words sort from line) r new) where
+module _ (old new : List ℕ) (k sort from : ℕ) (line : List ℕ) (r : rust.Option ℕ) (some_byte : 0 < length line) (room : k + length line + 1 ≤ length old) (wrote : Wrote old (Some k) (row_words sort from line) r new) where
   pub row_none : r ≡ None → row_words sort from line ≡ none
-  row_none e = row_absent old new k (length line + 1) room (header sort) _ r (sized_words sort from line some_byte).holds wrote.holds e
+  row_none e = row_absent old new k (length line + 1) (omega arith) (header sort) _ r (sized_words sort from line some_byte).holds wrote.holds e
 
   pub row_some : (w : ℕ) → r ≡ Some w → Written old k (row_words sort from line) w new × (w ≤ k + (length line + 1))
-  row_some w e = row_present old new k (length line + 1) room (header sort) w _ r (sized_words sort from line some_byte).holds wrote.holds e
+  row_some w e = row_present old new k (length line + 1) (omega arith) (header sort) w _ r (sized_words sort from line some_byte).holds wrote.holds e
 
 null_some : {A : Type 0} (xs : List A) → 0 < length xs → null xs ≡ false
 null_some [] h = absurd (omega arith)

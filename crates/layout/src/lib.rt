@@ -71,30 +71,23 @@ fn names(table: Table) -> &'static [u8]
     }
 }
 
-// Writes a row's words from a place of a buffer on: where they end. Here `Words`, which holds a buffer with its place, is
-// lent the buffer.
-fn put_words(table: Table, from: usize, line: &[u8], out: &mut [u32], at: usize) -> Option<usize>
-    requires { from + length line.now < 4294967296 }
-    ensures { Wrote out.old (Some at) (row_words (table_number table) from line.now) result out.new }
-{
-    let mut words = Words { out, at };
-    rows::put_row(table, from, line, &mut words)?;
-    Some(words.at)
-}
-
 impl Buffers<'_> {
     // Writes a row's words, and where they end.
+    #[tactic(auto, using(crate::proofs::Laws::row_none))]
     fn put_row(&mut self, table: Table, from: usize, line: &[u8]) -> Option<()>
         requires { (0 < length line.now) × (from + length line.now ≤ 65536) × (self.old.filled.words + length line.now + 1 ≤ length self.old.words.now)
             × (self.old.filled.words ≤ from) × (self.old.filled.rows + 1 < length self.old.rows.now) }
         ensures same { SameBuffers self.old self.new }
         ensures row { Put self.old self.new (row_words (table_number table) from line.now) (length line.now) result }
     {
-        let at = self.filled.words;
-        let end = put_words(table, from, line, self.words, at)?;
-        self.filled.words = end;
+        let mut words = Words {
+            out: self.words,
+            at: self.filled.words,
+        };
+        rows::put_row(table, from, line, &mut words)?;
+        self.filled.words = words.at;
         self.filled.rows += 1;
-        self.rows[self.filled.rows] = end as u32;
+        self.rows[self.filled.rows] = self.filled.words as u32;
         Some(())
     }
 
@@ -115,17 +108,14 @@ impl Buffers<'_> {
         ensures table { PutTable s.now start self.old self.new result }
     {
         let table = table_at(self.filled.tables);
-        let e = tokens::find_far(s, start, b'\n');
-        if e == s.len() || !tokens::equal(&s[start..e], names(table)) {
+        let e = tokens::find_far(s, start, b'\n')?;
+        if !tokens::equal(&s[start..e], names(table)) {
             return None;
         }
         let mut at = e + 1;
         // The lines are cut by hand: a text row keeps its place in the plan, which an iterator over lines does not give.
         loop {
-            let e = tokens::find_far(s, at, b'\n');
-            if e == s.len() {
-                return None;
-            }
+            let e = tokens::find_far(s, at, b'\n')?;
             if e == at {
                 self.end_table();
                 return Some(e + 1);

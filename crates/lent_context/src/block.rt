@@ -1,14 +1,15 @@
 // The steps of one block in a row, over a lent state and by value: document 01 names both, and `both_ways` shows that they give one state.
-ghost use Rattle.std.specs.Prelude.{◌≡◌, ◌<◌};
+ghost use Rattle.std.specs.Prelude.{◌≡◌, ◌+◌, ◌^◌, ◌<◌};
 ghost use Rattle.lent_context.specs.Block.{BlockSteps};
 
 use context::body_context::BodyContext;
 use context::by_value;
 
 // The steps around an arm: its scope is entered (codegen.rs 867) and its block begun (871), a binding is marked (562) and has a name (737),
-// a closure is numbered (885), and the block ends (904).
+// a closure is numbered (885), and the block ends (904). It asks that neither sum wraps, as the two steps do that add: an invariant of
+// `Nesting` in place of that would be asked of a state that only ends a block, too.
 pub fn block_steps(context: BodyContext, binding: usize, is_ref: bool) -> BodyContext
-    requires { (context.nesting.depth < 4096) × (context.nesting.match_split < 4294967296) }
+    requires { (context.nesting.depth + 1 < 2 ^ 64) × (context.nesting.match_split + 1 < 2 ^ 64) }
     ensures { BlockSteps context binding is_ref result }
 {
     let mut state = context;
@@ -23,7 +24,7 @@ pub fn block_steps(context: BodyContext, binding: usize, is_ref: bool) -> BodyCo
 
 // The same by value.
 pub fn block_steps_by_value(context: BodyContext, binding: usize, is_ref: bool) -> BodyContext
-    requires { (context.nesting.depth < 4096) × (context.nesting.match_split < 4294967296) }
+    requires { (context.nesting.depth + 1 < 2 ^ 64) × (context.nesting.match_split + 1 < 2 ^ 64) }
     ensures { BlockSteps context binding is_ref result }
 {
     let scope = by_value::enter_scope(context);
@@ -42,7 +43,7 @@ pub struct BothWays {
 
 // Both give one state.
 pub fn both_ways(context: BodyContext, binding: usize, is_ref: bool) -> BothWays
-    requires { (context.nesting.depth < 4096) × (context.nesting.match_split < 4294967296) }
+    requires { (context.nesting.depth + 1 < 2 ^ 64) × (context.nesting.match_split + 1 < 2 ^ 64) }
     ensures { result.lent ≡ result.by_value }
 {
     BothWays {

@@ -1,7 +1,7 @@
 -- Laws of levels and of the tables' rows. Assumes nothing.
 use Prim.Native.Nat.{ℕ, zero, suc, ◌+◌, ◌≤◌, ◌<◌}
 use mathlib.Core.Path.{◌≡◌, refl, ap, ◌∙◌}
-use mathlib.Core.Bool.{Bool, true, false, cond, ◌||◌}
+use mathlib.Core.Bool.{Bool, true, false, cond}
 use mathlib.Core.List.{List, [], ◌∷◌, ◌++◌, map}
 use native.Mathlib.Omega.{arith}
 use lib.Dec.{eqb, ltb, leb}
@@ -11,23 +11,27 @@ use borrow.Author.Tests.{ne_eqb, lt-ltb, le-ltb, le-leb, lt-leb, ltb-true, ltb-f
 use mathlib.Core.Option.{Option}
 use Rattle.plan.specs.Constraint.{Constraint}
 use Rattle.values.specs.Value.{Wide}
-use Rattle.plan.specs.Row.{ControlFlow, Row, step, arm, level}
+use Rattle.plan.specs.Row.{ControlFlow, Row, step, arm}
 use Rattle.plan.specs.Layout.{Below, arms, steps, nothing, below, may_stand, nested}
 use Rattle.rows.specs.View.{nth, block_of, step_made}
 use Rattle.layout.specs.Scan.{sort_at, table_shaped, shaped}
 use Rattle.layout.specs.View.{cuts}
-use Rattle.view.proofs.Laws.{cuts_length}
+use Rattle.rows.specs.Kinds.{block_number, block_kind}
+use Rattle.rows.proofs.Numbers.{block_numbered}
+use Rattle.view.specs.BlockRows.{level_is}
 use Rattle.levels.specs.Level.{below_at, stands, below_code, code, stored}
 use Rattle.levels.specs.declared.Below.TheVariants.{Steps, Arms, Nothing}
 
 -- A ROW'S WORDS
 
-pub level_law : (ws : List ℕ) → level (block_of ws) ≡ nth ws 0
-unfolding block_of level
-level_law ws = by_test (ltb (nth ws 1) 4) refl where
-  by_test : (b : Bool) → ltb (nth ws 1) 4 ≡ b → level (block_of ws) ≡ nth ws 0
-  by_test true e = rw e
-  by_test false e = rw e
+-- what is said of a kind is said of the number that it was read from
+stands_by_kind : (code n : ℕ) → stands code (block_number (block_kind n)) ≡ stands code n
+unfolding stands
+stands_by_kind code n = rw (block_numbered n) (grind arith)
+
+below_by_kind : (n : ℕ) → below_code (block_number (block_kind n)) ≡ below_code n
+unfolding below_code
+below_by_kind n = rw (block_numbered n) (grind arith)
 
 may_law : (code : ℕ) (ws : List ℕ) → may_stand (below_at code) (block_of ws) ≡ stands code (nth ws 1)
 unfolding block_of below_at stands
@@ -89,13 +93,13 @@ any_default (x ∷ l) zero a b h = refl
 any_default (x ∷ l) (suc i) a b h = any_default l i a b (omega arith)
 
 -- a row of a level and a kind, over the codes of the levels that are open
-module _ (stack : List ℕ) (depth : ℕ) (ws : List ℕ) (rs : List Row) (lv k : ℕ) (is_level : lv ≡ nth ws 0) (is_kind : k ≡ nth ws 1) (room : depth ≤ length stack) where
+module _ (stack : List ℕ) (depth : ℕ) (ws : List ℕ) (rs : List Row) (lv k : ℕ) (is_level : lv ≡ nth ws 0) (is_kind : k ≡ block_number (block_kind (nth ws 1))) (room : depth ≤ length stack) where
   open_levels : length (map below_at (take depth stack)) ≡ depth
   open_levels = length-map (take depth stack) below_at ∙ length-take-le depth stack room
 
   pub nested_deep : depth ≤ lv → nested (map below_at (take depth stack)) (block_of ws ∷ rs) ≡ false
   unfolding nested
-  nested_deep h = rw (level_law ws, ← is_level, open_levels, le-ltb lv depth h)
+  nested_deep h = rw (level_is ws, ← is_level, open_levels, le-ltb lv depth h)
 
   module _ (h : lv < depth) where
     at_level : get_or (map below_at (take depth stack)) lv nothing ≡ below_at (get_or stack lv 0)
@@ -104,33 +108,21 @@ module _ (stack : List ℕ) (depth : ℕ) (ws : List ℕ) (rs : List Row) (lv k 
 
     pub nested_not : stands (get_or stack lv 0) k ≡ false → nested (map below_at (take depth stack)) (block_of ws ∷ rs) ≡ false
     unfolding nested
-    nested_not f = rw (level_law ws, ← is_level, open_levels, lt-ltb lv depth h, at_level, may_law (get_or stack lv 0) ws, ← is_kind, f)
+    nested_not f = rw (level_is ws, ← is_level, open_levels, lt-ltb lv depth h, at_level, may_law (get_or stack lv 0) ws, ← stands_by_kind (get_or stack lv 0) (nth ws 1), ← is_kind, f)
 
     next_levels : lv + 1 < length stack → take (suc lv) (map below_at (take depth stack)) ++ (below (block_of ws) ∷ []) ≡ map below_at (take (lv + 2) (set stack (lv + 1) (below_code k)))
     next_levels g =
         let z : lv + 2 ≡ suc (lv + 1) = omega arith in
         let y : suc lv ≡ lv + 1 = omega arith in
         let x : lv + 1 ≤ depth = omega arith in
-        rw (z, take-suc-set stack (lv + 1) (below_code k) g, map_snoc, take_map, y, take-take (lv + 1) depth stack x, below_law ws, ← is_kind)
+        rw (z, take-suc-set stack (lv + 1) (below_code k) g, map_snoc, take_map, y, take-take (lv + 1) depth stack x, below_law ws, ← below_by_kind (nth ws 1), ← is_kind)
 
     pub nested_next : (code : ℕ) → code ≡ below_code k → stands (get_or stack lv 0) k ≡ true → lv + 1 < length stack
         → nested (map below_at (take depth stack)) (block_of ws ∷ rs) ≡ nested (map below_at (take (lv + 2) (set stack (lv + 1) code))) rs
     unfolding nested
-    nested_next code e f g = rw (e, level_law ws, ← is_level, open_levels, lt-ltb lv depth h, at_level, may_law (get_or stack lv 0) ws, ← is_kind, f, next_levels g)
+    nested_next code e f g = rw (e, level_is ws, ← is_level, open_levels, lt-ltb lv depth h, at_level, may_law (get_or stack lv 0) ws, ← stands_by_kind (get_or stack lv 0) (nth ws 1), ← is_kind, f, next_levels g)
 
 -- TABLES
-
-pub table_one : (sort : ℕ) (words rows : List ℕ) (from m : ℕ) → (eqb sort 0 || eqb sort 7) ≡ true → eqb m 1 ≡ table_shaped sort (cuts words rows from m)
-unfolding table_shaped
-table_one sort words rows from m e = rw (e, cuts_length)
-
-pub table_block : (words rows : List ℕ) (from m : ℕ) → table_shaped 9 (cuts words rows from m) ≡ nested (steps ∷ []) (map block_of (cuts words rows from m))
-unfolding table_shaped
-table_block words rows from m = refl
-
-pub table_any : (sort : ℕ) (t : List (List ℕ)) → (eqb sort 0 || eqb sort 7) ≡ false → eqb sort 9 ≡ false → true ≡ table_shaped sort t
-unfolding table_shaped
-table_any sort t e f = rw (e, f)
 
 pub shaped_not : (i : ℕ) (t : List (List ℕ)) (ts : List (List (List ℕ))) → table_shaped (sort_at i) t ≡ false → shaped i (t ∷ ts) ≡ false
 unfolding shaped

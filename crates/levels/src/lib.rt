@@ -4,12 +4,14 @@
 ghost use Rattle.std.specs.Prelude.{◌≡◌, ◌+◌, ◌-◌, ◌≤◌, ◌<◌, [], ◌∷◌, map, length};
 ghost use Rattle.plan.specs.Layout.{nested, steps};
 ghost use Rattle.rows.specs.View.{block_of};
+ghost use Rattle.rows.specs.Kinds.{block_number};
 ghost use Rattle.rows.specs.Table.{table_number};
 ghost use Rattle.layout.specs.Scan.{table_shaped, shaped};
 ghost use Rattle.layout.specs.View.{cuts, tables_of, Indexed};
 ghost use Rattle.levels.specs.Level.{stands, below_code, code, stored};
 
 use rows::Table;
+use rows::kinds::BlockKind;
 use view::buffers::Plan;
 
 // What may stand at a level next. The levels of a block are kept in bytes that are lent, and serve as a draft of the text later: each is
@@ -21,27 +23,29 @@ enum Below {
     Nothing,
 }
 
-impl Below {
-    // What may stand below a row of a kind, a word of the buffers (document 01): 0 is a `match`, 3 a `return`, and arms are from 4 on.
+// What may stand below a row of a kind.
+impl From<BlockKind> for Below {
+    ghost from_gives = { λ kind below. code below ≡ below_code (block_number kind) };
+
     #[tactic(auto, unfolding(crate::specs::Level::below_code))]
-    fn of(kind: u32) -> Below
-        ensures { code result ≡ below_code kind }
-    {
+    fn from(kind: BlockKind) -> Below {
         match kind {
-            0 => Below::Arms,
-            3 => Below::Nothing,
+            BlockKind::Match => Below::Arms,
+            BlockKind::Return => Below::Nothing,
             _ => Below::Steps,
         }
     }
+}
 
+impl Below {
     // Whether a row of a kind may stand there.
     #[tactic(auto, unfolding(crate::specs::Level::stands))]
-    fn allows(self, kind: u32) -> bool
-        ensures { result ≡ stands (code self) kind }
+    fn allows(self, kind: BlockKind) -> bool
+        ensures { result ≡ stands (code self) (block_number kind) }
     {
         match self {
-            Below::Steps => kind < 4,
-            Below::Arms => 4 <= kind,
+            Below::Steps => kind.is_step(),
+            Below::Arms => !kind.is_step(),
             Below::Nothing => false,
         }
     }
@@ -74,11 +78,11 @@ fn levels_fit(plan: &Plan<'_>, from: usize, to: usize, above: &mut [u8]) -> bool
     let mut depth = 1;
     for r in from..to {
         let level = plan.word(r, 0);
-        let kind = plan.cell(r, 1);
+        let kind = plan.block_kind(r);
         if depth <= level || !Below::from(above[level]).allows(kind) {
             return false;
         }
-        above[level + 1] = Below::of(kind).code();
+        above[level + 1] = Below::from(kind).code();
         depth = level + 2;
     }
     true
@@ -97,7 +101,8 @@ fn table_fits(plan: &Plan<'_>, table: Table, from: usize, to: usize, above: &mut
     }
 }
 
-// Whether each table has the rows that its sort asks for. The buffer of the levels is the caller's, as there is no heap.
+// Whether each table has the rows that its sort asks for. The buffer of the levels is the caller's, as there is no heap; that it has a place
+// for each level is asked for in three contracts, since it is lent before the number of rows is known: no type could hold both.
 pub fn all_fit(plan: &Plan<'_>, rows: usize, tables: usize, above: &mut [u8]) -> bool
     requires { Indexed plan.now.tables.now rows tables × (rows + 2 ≤ length above.old) × (rows ≤ 65536) × (tables ≤ 65536) }
     ensures { result ≡ shaped 0 (tables_of plan.now.words.now plan.now.rows.now plan.now.tables.now rows tables) }

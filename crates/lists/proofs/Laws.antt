@@ -13,6 +13,7 @@ use Rattle.plan.specs.Layout.{◌⊛◌, number, field, pattern_binding}
 use Rattle.tokens.specs.Token.{until}
 use Rattle.tokens.proofs.Laws.{split_more, split_last, parts_some}
 use Rattle.std.specs.Prelude as code
+use Rattle.std.specs.Option.{is_some, IfSome, IfNone}
 use Rattle.values.specs.Words.{◌⧺◌, word}
 use Rattle.values.specs.Writes.{Writes}
 use Rattle.values.specs.declared.Words.{Words}
@@ -31,6 +32,15 @@ field_two t n e h = rw (eq-eqb (length (split (eqb 58) t)) 2 (omega arith)) (by_
 pub field_other : (t : List ℕ) (n : ℕ) → n + 1 ≡ length (split (eqb 58) t) → (n ≡ 1 → ⊥) → some field_words ⊛ field t ≡ none
 unfolding field ◌⊛◌
 field_other t n e h = rw (ne_eqb (length (split (eqb 58) t)) 2 (λ q. h (omega arith)))
+
+-- what is known of an answer that is there, and of one that is not
+pub some_found : (o : code.Option ℕ) (P : ℕ → Type 0) → true ≡ is_some o → IfSome o P → (i : ℕ) × P i
+some_found code.None P e h = let z : ◌≡◌ {A = ℕ} 0 1 = cc in absurd (omega arith)
+some_found (code.Some i) P e h = (i, h)
+
+pub none_found : (o : code.Option ℕ) (Q : Type 0) → false ≡ is_some o → IfNone o Q → Q
+none_found code.None Q e h = h
+none_found (code.Some i) Q e h = let z : ◌≡◌ {A = ℕ} 0 1 = cc in absurd (omega arith)
 
 -- a field by the colon at e, the first one, and the one at f after it
 module _ (t : List ℕ) (e : ℕ) (here : e ≡ 0 + until 58 t) where

@@ -10,14 +10,13 @@ ghost use Rattle.emits.specs.Runs.{Emits};
 ghost use Rattle.emits.specs.Marks.{set_of};
 ghost use Rattle.sema.specs.Holds.{VariantsIndexed};
 
-use super::bind::pattern_of;
 use super::fields::emit_fields;
 use consts::pieces::put_var;
 use consts::{emit_bool, emit_int};
 use emits::stablemapset::{contains, insert};
 use expr_parts::{const_prim, type_name, variant_name};
+use row_frames::pattern_of;
 use sema::types::TypeId;
-use text::number::Wide;
 use text::sink::Sink;
 use view::block::Constraint;
 use view::buffers::Plan;
@@ -37,7 +36,7 @@ fn emit_variant(
     let variant = ty.variant(plan, k);
     w.put_bytes(b"&");
     variant_name(w, plan, ty, variant.name);
-    emit_fields(w, plan, refs, depth, variant.fields, r);
+    emit_fields(w, plan, refs, depth, &variant.fields, r);
 }
 
 // A struct, with its fields.
@@ -53,18 +52,18 @@ fn emit_struct(
 {
     w.put_bytes(b"&");
     type_name(w, plan, ty);
-    emit_fields(w, plan, refs, depth, ty.fields(plan), r);
+    emit_fields(w, plan, refs, depth, &ty.fields(plan), r);
 }
 
 // What stands inside `Some(` and `)`: a reference if the source is one.
 fn put_inside_some(w: &mut Sink<'_>, plan: &Plan<'_>, refs: &mut [bool], q: usize, r: usize)
     ensures { (env : Environment) (d : ℕ) → Emits env d (inside_some q (patterns_in (drop 7 (words_of plan.now r)))) w.old (set_of refs.old) w.new (set_of refs.new) }
 {
-    let row = plan.row(r);
-    if row.len() <= 7 {
+    let list = plan.list(r, 7);
+    if list.is_empty() {
         return;
     }
-    let Some(b) = pattern_of(row[7]) else {
+    let Some(b) = pattern_of(list[0]) else {
         return w.put_bytes(b"_");
     };
     if contains(refs, q) {
@@ -95,7 +94,7 @@ pub fn emit_constraint(
 {
     match c {
         Constraint::ConstBool { val } => emit_bool(w, val),
-        Constraint::ConstInt { ty, high, low } => emit_int(w, TypeId(ty), Wide { high, low }),
+        Constraint::ConstInt { ty, val } => emit_int(w, TypeId(ty), val),
         Constraint::ConstPrim { val } => const_prim(w, plan, val),
         Constraint::Variant { ty, variant } => {
             emit_variant(w, plan, refs, depth, TypeId(ty), variant, r)

@@ -1,5 +1,5 @@
 // The fields of a variant's or a struct's pattern: codegen.rs 1136, `emit_fields`. No literal stands in them.
-ghost use Rattle.std.specs.Prelude.{refl, cond, [], ◌∷◌, ◌++◌, ℕ, drop};
+ghost use Rattle.std.specs.Prelude.{◌≡◌, refl, cond, [], ◌∷◌, ◌++◌, ℕ, drop};
 ghost use Rattle.plan.specs.Plan.{Environment};
 ghost use Rattle.rows.specs.View.{patterns_in};
 ghost use Rattle.codegen.specs.Piece.{fix, unbrace, break};
@@ -10,11 +10,12 @@ ghost use Rattle.emits.specs.Runs.{Emits};
 ghost use Rattle.emits.specs.Sinks.{Shows};
 ghost use Rattle.emits.specs.Marks.{set_of};
 ghost use Rattle.sema.specs.Fields.{fields_read};
-ghost use Rattle.pattern.specs.Told.{pattern_told};
+ghost use Rattle.row_frames.specs.Told.{pattern_told};
 
-use super::bind::{pattern_of, skipped_some};
+use super::bind::skipped_some;
 use consts::pieces::{put_break, put_var};
 use emits::stablemapset::insert;
+use row_frames::pattern_of;
 use sema::fields::Fields;
 use text::sink::Sink;
 use view::buffers::Plan;
@@ -22,7 +23,8 @@ use view::buffers::Plan;
 // A field whose type is passed by reference is bound as one.
 #[tactic(auto, using(emits::specs::Emitted::emitted), unfolding(codegen::specs::Piece::odd_pieces, codegen::specs::Piece::odd_piece))]
 fn put_ref(w: &mut Sink<'_>, refs: &mut [bool], wanted: bool, b: usize)
-    ensures { (env : Environment) (d : ℕ) → Emits env d (cond wanted (mark b ▸ say (fix "ref " refl ∷ [])) nothing) w.old (set_of refs.old) w.new (set_of refs.new) }
+    ensures emits { (env : Environment) (d : ℕ) → Emits env d (cond wanted (mark b ▸ say (fix "ref " refl ∷ [])) nothing) w.old (set_of refs.old) w.new (set_of refs.new) }
+    ensures odd { w.new.odd ≡ w.old.odd }
 {
     if wanted {
         insert(refs, b);
@@ -37,17 +39,18 @@ fn field_pattern(
     plan: &Plan<'_>,
     refs: &mut [bool],
     depth: usize,
-    f: Fields,
+    f: &Fields<'_>,
     i: usize,
     pattern: Option<usize>,
 )
-    ensures { let env = env_of plan.now in Emits env depth (field_patterns env (fields_read plan.now f) i (pattern_told pattern ∷ [])) w.old (set_of refs.old) w.new (set_of refs.new) }
+    ensures emits { let env = env_of plan.now in Emits env depth (field_patterns env (fields_read f.now) i (pattern_told pattern ∷ [])) w.old (set_of refs.old) w.new (set_of refs.new) }
+    ensures odd { w.new.odd ≡ w.old.odd }
 {
     if let Some(b) = pattern {
         put_break(w, depth, 1);
         f.put_name(w, plan, i);
         w.put_bytes(b": ");
-        put_ref(w, refs, f.ty(plan, i).is_ref(plan), b);
+        put_ref(w, refs, f.ty(i).is_ref(plan), b);
         put_var(w, b);
         w.put_bytes(b",");
     }
@@ -59,12 +62,13 @@ fn field_patterns(
     plan: &Plan<'_>,
     refs: &mut [bool],
     depth: usize,
-    f: Fields,
+    f: &Fields<'_>,
     r: usize,
 )
-    ensures { let env = env_of plan.now in Emits env depth (field_patterns env (fields_read plan.now f) 0 (patterns_in (drop 7 (words_of plan.now r)))) w.old (set_of refs.old) w.new (set_of refs.new) }
+    ensures emits { let env = env_of plan.now in Emits env depth (field_patterns env (fields_read f.now) 0 (patterns_in (drop 7 (words_of plan.now r)))) w.old (set_of refs.old) w.new (set_of refs.new) }
+    ensures odd { w.new.odd ≡ w.old.odd }
 {
-    for (i, word) in plan.row(r).iter().skip(7).enumerate() {
+    for (i, word) in plan.list(r, 7).iter().enumerate() {
         field_pattern(w, plan, refs, depth, f, i, pattern_of(*word));
     }
 }
@@ -87,12 +91,13 @@ pub fn emit_fields(
     plan: &Plan<'_>,
     refs: &mut [bool],
     depth: usize,
-    f: Fields,
+    f: &Fields<'_>,
     r: usize,
 )
-    ensures { let env = env_of plan.now in Emits env depth (emit_fields env (fields_read plan.now f) (patterns_in (drop 7 (words_of plan.now r)))) w.old (set_of refs.old) w.new (set_of refs.new) }
+    ensures emits { let env = env_of plan.now in Emits env depth (emit_fields env (fields_read f.now) (patterns_in (drop 7 (words_of plan.now r)))) w.old (set_of refs.old) w.new (set_of refs.new) }
+    ensures odd { w.new.odd ≡ w.old.odd }
 {
-    if plan.list_len(r, 7) == 0 {
+    if plan.list(r, 7).is_empty() {
         return;
     }
     w.put_bytes(b" {");

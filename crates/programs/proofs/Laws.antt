@@ -24,9 +24,8 @@ use Rattle.std.specs.Prelude.{Ok, Err, Some, None}
 use Rattle.refusal.specs.Number.{number, refusal_number}
 use Rattle.refusal.specs.declared.Refusal.{Refusal}
 use Rattle.refusal.specs.declared.Refusal.TheVariants as refusal
-use Rattle.emitter.specs.declared.Text.{Text}
 use Rattle.emitter.specs.Answered.{Emitted, Answers, items_answer}
-use Rattle.programs.specs.Printed.{refused_line, accepted_line, verdict, printed, count_line, counted, shown}
+use Rattle.programs.specs.Printed.{refused_line, accepted_line, verdict, printed, count_line, shown}
 
 -- LENGTHS
 
@@ -100,13 +99,6 @@ module _ (plan : List ℕ) {room : ℕ} {r : Emitted} {before after : List ℕ} 
   pub items_printed : Answers (items_answer plan room) r before after → shown r after ≡ printed (items_answer plan 65536)
   unfolding items_answer
   items_printed p = shown_is (sized (λ q. render q.env 0 (items q)) 65536 (outcome plan)) (rw e at p)
-
--- the numbers of an answer
-pub refused_counted : (plan : List ℕ) {room : ℕ} {r : Refusal} {before after : List ℕ} → room ≡ 65536 → Answers (answer plan room) (Err r) before after → count_line (number r) 0 0 ≡ counted (answer plan 65536)
-refused_counted plan {r = r} e p = let q : Answers (answer plan 65536) (Err r) _ _ = rw e at p in rw (← q.number, ← q.length, ← q.count) refl
-
-pub text_counted : (plan : List ℕ) {room : ℕ} {t : Text} {before after : List ℕ} → room ≡ 65536 → Answers (answer plan room) (Ok t) before after → count_line 0 t.length t.count ≡ counted (answer plan 65536)
-text_counted plan {t = t} e p = let q : Answers (answer plan 65536) (Ok t) _ _ = rw e at p in rw (← q.number, ← q.length, ← q.count) refl
 
 -- a refusal has a number above 0
 some_number : (r : Refusal) → number r ≡ 0 → ⊥

@@ -4,7 +4,7 @@ use Rattle.text.specs.Codes.{codes}
 use Rattle.text.specs.Digits.{decimal}
 use Rattle.codegen.specs.Answer.{Answer}
 use Rattle.refusal.specs.Number.{number}
-use Rattle.emitter.specs.Answered.{Emitted}
+use Rattle.emitter.specs.Answered.{Emitted, number_of, length_of, count_of}
 
 -- document 01, "the line `refused N`", with its LF
 unfoldable pub refused_line : ℕ → List ℕ
@@ -27,6 +27,10 @@ count_line number length count = decimal number ++ (codes " " ++ (decimal length
 
 abbrev pub counted : Answer → List ℕ
 counted a = count_line a.number a.length a.count
+
+-- the same of an entry's result
+abbrev pub numbers : Emitted → List ℕ
+numbers r = count_line (number_of r) (length_of r) (count_of r)
 
 -- the same as `printed`, of an entry's result and its buffer
 abbrev pub shown : Emitted → List ℕ → List ℕ

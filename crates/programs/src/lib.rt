@@ -1,4 +1,6 @@
-// What the programs print, in the first bytes of the buffer that they lend: each function returns how many.
+// What the programs print, in the first bytes of the buffer that they lend: each function returns how many. Tried: these bytes as the
+// result. It proves, but of a buffer that has gone into a result by `&` no clause can say what it holds afterwards. A line is put by the
+// emitter's sink, whose clauses say which bytes; `write!` would want a writer made of it, and say no more.
 #![tactic(auto)]
 
 ghost use Rattle.std.specs.Prelude.{◌≡◌, ◌≤◌, IfOk, length, take};
@@ -6,7 +8,7 @@ ghost use Rattle.codegen.specs.Answer.{answer, terms_answer};
 ghost use Rattle.emitter.specs.Answered.{items_answer};
 ghost use Rattle.plan.specs.Refusal.{refusal};
 ghost use Rattle.refusal.specs.Number.{number};
-ghost use Rattle.programs.specs.Printed.{refused_line, accepted_line, verdict, printed, count_line, counted, shown};
+ghost use Rattle.programs.specs.Printed.{refused_line, accepted_line, verdict, printed, numbers, counted, shown};
 
 use emitter::Text;
 use refusal::Refusal;
@@ -15,19 +17,19 @@ use std::io::{ErrorKind, Print, Read};
 use text::sink::Sink;
 
 // The line `refused N`.
-fn put_refusal(out: &mut [u8], refusal: Refusal) -> usize
-    ensures { length out.old ≡ 65536 → take result out.new ≡ refused_line (number refusal) }
+fn put_refusal(out: &mut [u8; 65536], refusal: Refusal) -> usize
+    ensures { take result out.new ≡ refused_line (number refusal) }
 {
     let mut w = Sink::new(out, 65537);
     w.put_bytes(b"refused ");
-    w.put_decimal(refusal.number() as u64);
+    w.put_decimal(u32::from(refusal) as u64);
     w.put_byte(b'\n');
     w.at
 }
 
 // The line `accepted`.
-fn put_accepted(out: &mut [u8]) -> usize
-    ensures { length out.old ≡ 65536 → take result out.new ≡ accepted_line }
+fn put_accepted(out: &mut [u8; 65536]) -> usize
+    ensures { take result out.new ≡ accepted_line }
 {
     let mut w = Sink::new(out, 65537);
     w.put_bytes(b"accepted");
@@ -35,23 +37,25 @@ fn put_accepted(out: &mut [u8]) -> usize
     w.at
 }
 
-// The line `number length count`.
-fn put_counts(out: &mut [u8], number: u32, size: usize, count: usize) -> usize
-    ensures { length out.old ≡ 65536 → take result out.new ≡ count_line number size count }
+// The line `number length count` of an answer.
+fn put_counts(r: Result<Text, Refusal>, out: &mut [u8; 65536]) -> usize
+    ensures { take result out.new ≡ numbers r }
 {
+    let number = r.err().map_or(0, u32::from);
+    let text = r.unwrap_or_default();
     let mut w = Sink::new(out, 65537);
     w.put_decimal(number as u64);
     w.put_byte(b' ');
-    w.put_decimal(size as u64);
+    w.put_decimal(text.length as u64);
     w.put_byte(b' ');
-    w.put_decimal(count as u64);
+    w.put_decimal(text.count as u64);
     w.put_byte(b'\n');
     w.at
 }
 
 // The text, which stands in the buffer, or the line `refused N`, which is put there: a refusal left the buffer unused.
-fn put_shown(r: Result<Text, Refusal>, out: &mut [u8]) -> usize
-    ensures { length out.old ≡ 65536 → take result out.new ≡ shown r out.old }
+fn put_shown(r: Result<Text, Refusal>, out: &mut [u8; 65536]) -> usize
+    ensures { take result out.new ≡ shown r out.old }
 {
     match r {
         Ok(text) => text.length,
@@ -59,7 +63,8 @@ fn put_shown(r: Result<Text, Refusal>, out: &mut [u8]) -> usize
     }
 }
 
-// What the program `whole` prints.
+// What the program `whole` prints. This and the next four differ in the entry that they call, and each is a program of its own.
+#[tactic(auto, using(crate::proofs::Laws::whole_printed))]
 pub fn whole(plan: &[u8], out: &mut [u8; 65536]) -> usize
     ensures { take result out.new ≡ printed (answer plan.now 65536) }
 {
@@ -67,6 +72,7 @@ pub fn whole(plan: &[u8], out: &mut [u8; 65536]) -> usize
 }
 
 // What the program `terms` prints.
+#[tactic(auto, using(crate::proofs::Laws::terms_printed))]
 pub fn terms(plan: &[u8], out: &mut [u8; 65536]) -> usize
     ensures { take result out.new ≡ printed (terms_answer plan.now 65536) }
 {
@@ -74,6 +80,7 @@ pub fn terms(plan: &[u8], out: &mut [u8; 65536]) -> usize
 }
 
 // What the program `items` prints.
+#[tactic(auto, using(crate::proofs::Laws::items_printed))]
 pub fn items(plan: &[u8], out: &mut [u8; 65536]) -> usize
     ensures { take result out.new ≡ printed (items_answer plan.now 65536) }
 {
@@ -84,13 +91,11 @@ pub fn items(plan: &[u8], out: &mut [u8; 65536]) -> usize
 pub fn count(plan: &[u8], out: &mut [u8; 65536]) -> usize
     ensures { take result out.new ≡ counted (answer plan.now 65536) }
 {
-    match emitter::emit(plan, out) {
-        Ok(text) => put_counts(out, 0, text.length, text.count),
-        Err(refusal) => put_counts(out, refusal.number(), 0, 0),
-    }
+    put_counts(emitter::emit(plan, out), out)
 }
 
 // What the program `accept` prints.
+#[tactic(auto, using(crate::proofs::Laws::none_refused, crate::proofs::Laws::one_refused))]
 pub fn accept(plan: &[u8], out: &mut [u8; 65536]) -> usize
     ensures { take result out.new ≡ verdict (refusal plan.now) }
 {
@@ -104,10 +109,7 @@ pub fn accept(plan: &[u8], out: &mut [u8; 65536]) -> usize
 pub fn first(out: &[u8], n: usize) -> &[u8]
     ensures { result.now ≡ take n out.now }
 {
-    if n <= out.len() {
-        return &out[..n];
-    }
-    out
+    out.get(..n).unwrap_or(out)
 }
 
 // Reads once, and again where that is interrupted. An interrupted read leaves no less to read, so nothing shows that a `loop` ends:

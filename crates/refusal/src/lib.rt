@@ -30,10 +30,10 @@ pub enum Refusal {
     Room,
 }
 
-impl Refusal {
-    pub fn number(self) -> u32
-        ensures { result ≡ number self }
-    {
-        self as u32
+impl From<Refusal> for u32 {
+    ghost from_gives = { λ refusal n. n ≡ number refusal };
+
+    fn from(refusal: Refusal) -> u32 {
+        refusal as u32
     }
 }

@@ -9,5 +9,5 @@ ghost use Rattle.plan.specs.Refusal.{refusal};
 pub extern "C" fn rizhavel_refusal(plan: &[u8]) -> u32
     ensures { result ≡ refusal plan.now }
 {
-    refusals::refused(plan).map_or(0, |r| r.number())
+    refusals::refused(plan).map_or(0, u32::from)
 }

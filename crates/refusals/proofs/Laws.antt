@@ -1,17 +1,15 @@
 -- The refusals 4 to 10 come after 1 to 3. Assumes nothing.
-use Prim.Native.Nat.{ℕ, ◌+◌, ◌*◌, ◌≤◌, ◌<◌}
+use Prim.Native.Nat.{ℕ, ◌+◌, ◌≤◌, ◌<◌}
 use mathlib.Core.Path.{◌≡◌, refl, sym, ap, ◌∙◌}
 use mathlib.Core.Bool.{Bool, true, false, cond}
 use mathlib.Core.List.{List}
 use mathlib.Core.Option.{Option, some, none}
 use native.Mathlib.Omega.{arith}
 use lib.ListN.{length, take}
-use lib.Dec.{eqb}
-use borrow.Author.Tests.{ne_eqb, eqb-true}
 use Rattle.plan.specs.Plan.{Plan}
 use Rattle.plan.specs.Layout.{read}
 use Rattle.plan.specs.Refusal.{fits_length, bytes_allowed, Outcome, refused, accepted, judged, laid_out, outcome, number_of, refusal, within_most, all_exist, lengths_fit, sources_lower, returns_fit, matches_have_arms, loops_iterate}
-use Rattle.reader.specs.Reading.{of_layout, reading, Holding, Says, Keeps}
+use Rattle.reader.specs.Reading.{of_layout, reading, Holding, Says}
 use Rattle.reader.specs.declared.Held.{Held}
 use Rattle.refusal.specs.declared.Refusal.{Refusal}
 use Rattle.refusal.specs.declared.Refusal.TheVariants.{TooLong, Byte, Layout, Most, Exists, Lengths, Lower, Returns, Armless, Loop, Room}
@@ -21,7 +19,6 @@ use Rattle.std.specs.Result.{result_err}
 use Rattle.std.specs.declared.result.Result as rust
 use Rattle.std.specs.Prelude.{Ok, Err}
 use Rattle.view.specs.Tables.{plan_in}
-use Rattle.variants.specs.Index.{VariantIndex}
 use Rattle.view.proofs.Held.{plan_is}
 
 -- what the checks 4 to 10 make of a plan
@@ -147,7 +144,3 @@ refused_is s words rows tables r h = by_outcome (outcome s) r h where
 pub number_of_err : (r : rust.Result Held Refusal) → refusal_number (result_err r) ≡ result_number r
 number_of_err (Ok n) = refl
 number_of_err (Err r) = refl
-
--- what holds of buffers holds of equal ones
-pub of_equal : (P : List ℕ → List ℕ → List ℕ → Type 0) (w x m w' x' m' : List ℕ) → P w x m → w' ≡ w → x' ≡ x → m' ≡ m → P w' x' m'
-of_equal P w x m w' x' m' h a b e = rw (a, b, e) h

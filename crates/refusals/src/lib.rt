@@ -13,7 +13,8 @@ use reader::Held;
 use refusal::Refusal;
 
 // Reads a plan into buffers that are long enough for it and judges it: its lowest refusal, or how many rows and tables the buffers
-// hold; then its variants are indexed. The refusals 1 and 2 change nothing in the buffers, and 3 nothing in the index.
+// hold; then its variants are indexed. The refusals 1 and 2 change nothing in the buffers, and 3 nothing in the index. `Room` is a fact of the
+// buffers and of the plan that is read, and so no invariant of `Buffers`.
 pub fn read_into(
     plan: &[u8],
     buffers: &mut Buffers<'_>,

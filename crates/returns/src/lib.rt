@@ -1,7 +1,7 @@
 // A return, with its rule, logging and limit: codegen.rs 816.
 #![tactic(auto)]
 
-ghost use Rattle.std.specs.Prelude.{ℕ, ◌+◌, ◌<◌, [], List};
+ghost use Rattle.std.specs.Prelude.{ℕ, [], List};
 ghost use Rattle.std.proofs.Math.Option.{some, none};
 ghost use Rattle.text.specs.Writes.{Writes};
 ghost use Rattle.plan.specs.Plan.{Environment};
@@ -9,19 +9,17 @@ ghost use Rattle.codegen.specs.Block.{Frame, log_lines, return_line, returning};
 ghost use Rattle.codegen.specs.ReturnKind.{by_return_kind};
 ghost use Rattle.codegen.specs.Writer.{Marks};
 ghost use Rattle.emits.specs.Marks.{set_of};
-ghost use Rattle.emits.specs.Runs.{Emits};
 ghost use Rattle.sema.specs.Signature.{return_kind_told};
-ghost use Rattle.context.specs.Context.{SameButRefs};
-ghost use Rattle.body.specs.Told.{env_in, body_told, Fits, StandsIn};
+ghost use Rattle.body.specs.Told.{env_in, body_told, StandsIn};
 ghost use Rattle.body.specs.Lines.{LinesLead};
 ghost use Rattle.body.specs.Own.{WritesOwn};
+ghost use Rattle.body.specs.Words.{HasDepth, WritesWords};
 ghost use Rattle.returns.specs.ReturnLines.{rule_lines, overflow_lines};
 
 use body::Body;
 use context::block::put_iter_overflow_action;
 use context::body_context::{BodyContext, Nesting};
 use emits::stablemapset::contains;
-use expr::emit_expr;
 use expr_parts::put_clone;
 use sema::signature::ReturnKind;
 use sema::texts::{Text, put_quoted_text, put_text};
@@ -67,19 +65,10 @@ fn put_by_kind(w: &mut Sink<'_>, kind: ReturnKind, many: &[u8], one: &[u8])
 
 // The result is asked about after it is written: one that is a reference is cloned.
 fn return_line(w: &mut Sink<'_>, body: &Body<'_>, context: &mut BodyContext, r: usize)
-    ensures emits { Fits body.now → context.old.nesting.depth + r < 4611686018427387904 → Emits (env_in body.now) context.old.nesting.depth (return_line (body_told body.now) (set_of context.old.is_bound) r) w.old (set_of context.old.is_ref) w.new (set_of context.new.is_ref) }
-    ensures same { SameButRefs context.old context.new }
+    ensures { let b = body.now in WritesWords (HasDepth context.old r) b (return_line (body_told b) (set_of context.old.is_bound) r) w.old context.old w.new context.new }
 {
     put_by_kind(w, body.ret_kind, b"returns.extend(Some(", b"return ");
-    emit_expr(
-        w,
-        body.plan,
-        &mut context.is_ref,
-        &context.is_bound,
-        body.t,
-        context.nesting.depth,
-        r,
-    );
+    body.emit_expr(w, context, r);
     put_clone(w, false, contains(&context.is_ref, r));
     put_by_kind(w, body.ret_kind, b"));", b";");
 }
@@ -108,7 +97,7 @@ fn put_limit(w: &mut Sink<'_>, kind: ReturnKind, nesting: Nesting)
 
 // The return of r, by the rule at p.
 pub fn emit_return(w: &mut Sink<'_>, body: &Body<'_>, context: &mut BodyContext, r: usize, p: usize)
-    ensures { WritesOwn (context.old.nesting.depth + r < 4611686018427387904) body.now (λ q. returning (body_told body.now) (set_of context.old.is_bound) r p q) w.old context.old none w.new context.new }
+    ensures { WritesOwn (HasDepth context.old r) body.now (λ q. returning (body_told body.now) (set_of context.old.is_bound) r p q) w.old context.old none w.new context.new }
 {
     let nesting = context.nesting;
     put_rule(w, body, nesting, p);

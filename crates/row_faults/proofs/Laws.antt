@@ -1,6 +1,6 @@
 -- Laws about names, kept answers and lists. Assumes nothing.
 use Prim.Native.Nat.{ℕ, zero, suc, ◌+◌, ◌≤◌, ◌<◌}
-use mathlib.Core.Path.{◌≡◌, refl, sym, ap, ◌∙◌}
+use mathlib.Core.Path.{◌≡◌, refl, sym, ap, ◌∙◌, subst}
 use mathlib.Core.Bool.{Bool, true, false, cond, not, ◌&&◌, ◌||◌}
 use mathlib.Core.Option.{Option, some, none}
 use mathlib.Core.List.{List, [], ◌∷◌}
@@ -11,7 +11,7 @@ use native.Mathlib.Omega.{arith}
 use lib.Dec.{eqb, ltb}
 use lib.ListN.{length, get_or, drop, drop_of_length-le}
 use lib.Seq.{drop-cons, get_or-drop, get_or-set_other}
-use borrow.Author.Tests.{eq-eqb, ne_eqb, eqb-false, ltb-true, ltb-false}
+use borrow.Author.Tests.{eqb-false, ltb-true, ltb-false}
 use Rattle.plan.specs.Plan.{Environment}
 use Rattle.plan.specs.Binding.{BindingRow}
 use Rattle.plan.specs.Lookup.{binding_at}
@@ -20,48 +20,36 @@ use Rattle.codegen.specs.Writer.{Marks, contains, insert}
 use Rattle.codegen.specs.Pattern.{bind_all}
 use Rattle.codegen.specs.Block.{Purpose, body, arm_count, is_constant}
 use Rattle.origin.specs.Names.{listed, after_list, match_inside, match_opens, inside, opens, arm_inside, arm_opens}
-use Rattle.lists.specs.Items.{unbound}
-use Rattle.rows.specs.View.{nth, pattern_of, patterns_in, binding_of, block_of}
+use Rattle.rows.specs.View.{nth, patterns_in, binding_of, block_of}
 use Rattle.layout.specs.View.{cut}
 use Rattle.view.specs.Told.{control_flow_of, constraint_of}
 use Rattle.checks.proofs.Blocks.{binding_is}
-use Rattle.row_frames.specs.Patterns.{bind_some}
-use Rattle.row_frames.specs.Scopes.{Saved}
 use Rattle.row_frames.specs.Told.{purpose_told, opens_told}
 use Rattle.row_frames.specs.declared.Purpose as code
 use Rattle.row_frames.specs.declared.Purpose.TheVariants as purposes
 use Rattle.emits.specs.Marks.{set_of}
-use Rattle.row_frames.specs.Rows.{rows_from, rows_next, rows_none}
+use Rattle.row_frames.specs.Rows.{rows_from, rows_in, rows_next, rows_none}
 use Rattle.view.specs.BlockRows.{step_is, arm_is}
 use Rattle.splitting.specs.Cases.{false_true}
 use Rattle.schedule_rules.specs.Faults.{any, returns_many, holds, calls_below, calls, uses, loop_unbound, list_calls, check_calls, own_new, source_uses_own, match_uses_own, row_faults, nowhere}
 use Rattle.schedule_rules.specs.Found.{Lower, found}
 use Rattle.schedule_rules.proofs.Found.{sources_found}
-use Rattle.view.specs.Buffers.{rows_of, env_of}
+use Rattle.view.specs.Buffers.{words_of, rows_of, env_of}
 use Rattle.expr_faults.specs.Kept.{bindings_of, asked_name, asked_call, answer, Known, Fresh, Finds}
 use Rattle.expr_faults.specs.declared.kept.Kept.{Kept}
 use Rattle.expr_faults.specs.declared.written.Bindings.{Bindings}
 use Rattle.expr_faults.specs.declared.written.Question.{Question}
 use Rattle.expr_faults.proofs.Laws.{fresh_known, fresh_latest}
 use Rattle.row_faults.specs.Ready.{Ready, Decides, member_calls}
-use Rattle.row_faults.specs.Arms.{arms_in, arm_names, own_used, arm_own, opened_by}
+use Rattle.row_frames.specs.Arms.{arms_in, opened_by}
+use Rattle.row_faults.specs.Arms.{arm_names, own_used, arm_own}
+use Rattle.row_faults.specs.Names.{NamesBecome}
+use Rattle.row_faults.specs.declared.names.Names.{Names}
 use Rattle.row_faults.specs.Step.{JudgesStep}
 use Rattle.row_faults.specs.Row.{JudgesArm, JudgesRow}
 use Rattle.row_faults.specs.declared.check.Step.{Step}
-use Rattle.row_faults.specs.declared.matches.Arms.{Arms}
-use Rattle.row_faults.specs.declared.matches.Arms.TheVariants.{Absent, One, Several}
-
--- NAMES
-
--- what is there already changes nothing
-pub insert_there : (m : Marks) (b : ℕ) → contains m b ≡ true → insert m b ≡ m
-insert_there [] b h = refl
-insert_there (x ∷ m) zero h = ap (λ (y : Bool). y ∷ m) (sym h)
-insert_there (x ∷ m) (suc b) h = ap (λ (n : Marks). x ∷ n) (insert_there m b h)
-
--- nor does a pattern that binds it
-pub bind_there : (b : ℕ) (m : Marks) → (b ≡ unbound → ⊥) → contains m b ≡ true → m ≡ bind_all (pattern_of b ∷ []) m
-bind_there b m h k = sym (insert_there m b k) ∙ bind_some b m h
+use Rattle.row_frames.specs.declared.Arms.{Arms}
+use Rattle.row_frames.specs.declared.Arms.TheVariants.{One, Several}
 
 -- KEPT ANSWERS
 
@@ -159,35 +147,6 @@ module _ {t : Bindings} {list : List ℕ} {m₀ : Marks} where
   unfolding list_calls
   listing_faults {m} {k} {found} h w = record { is = λ l. sym (rw (drop_of_length-le list h) (or_false found)) ∙ w.faults l }
 
-pub or_left : (a b : Bool) → (a || b) ≡ false → a ≡ false
-or_left true b h = false_true (sym h)
-or_left false b h = refl
-
-pub or_right : (a b : Bool) → (a || b) ≡ false → b ≡ false
-or_right true b h = false_true (sym h)
-or_right false b h = h
-
--- ARMS
-
-module _ (words rows : List ℕ) (l r last : ℕ) where
-  pub arms_absent : last ≤ r → Absent ≡ arms_in l (rows_from words rows last r)
-  unfolding arms_in
-  arms_absent h = rw (rows_none words rows r last h)
-
-  pub arms_step : r < last → ltb (nth (cut words rows r) 1) 4 ≡ true → Absent ≡ arms_in l (rows_from words rows last r)
-  unfolding arms_in
-  arms_step h s = rw (rows_next words rows r last h, step_is (cut words rows r) s)
-
-  arms_some : r < last → ltb (nth (cut words rows r) 1) 4 ≡ false → arms_in l (rows_from words rows last r) ≡ cond (eqb (arm_count l (rows_from words rows last r)) 1) One Several
-  unfolding arms_in
-  arms_some h s = rw (rows_next words rows r last h, arm_is (cut words rows r) s)
-
-  pub arms_one : r < last → ltb (nth (cut words rows r) 1) 4 ≡ false → arm_count l (rows_from words rows last r) ≡ 1 → One ≡ arms_in l (rows_from words rows last r)
-  arms_one h s q = sym (arms_some h s ∙ rw (eq-eqb _ 1 q))
-
-  pub arms_several : r < last → ltb (nth (cut words rows r) 1) 4 ≡ false → (arm_count l (rows_from words rows last r) ≡ 1 → ⊥) → Several ≡ arms_in l (rows_from words rows last r)
-  arms_several h s q = sym (arms_some h s ∙ rw (ne_eqb (arm_count l (rows_from words rows last r)) 1 q))
-
 -- THE ARM'S OWN NAMES
 
 any_like : (f g : ℕ → Bool) → ((n : ℕ) → f n ≡ g n) → (qs : List ℕ) → any f qs ≡ any g qs
@@ -284,42 +243,45 @@ first_source t b = rw (binding_is (rows_of t.plan.now t.table) b) (sym (get_or-d
 
 -- STEPS
 
-module _ {t : Bindings} where
-  pub judges_loop : {m m' : Marks} {kept : Kept} {s : Step} (result l : ℕ) (rs : List Row) → m' ≡ insert m result → Ready t m' kept → opens_told s.opens ≡ some body
-      → s.faults.a ≡ not (contains m (get_or (binding_at (bindings_of t) result).sources 0 0)) → s.faults.b ≡ false → s.faults.c ≡ false → JudgesStep t (Loop result) l rs m m' kept s
+module _ {n n' : Names} {s : Step} where
+  pub judges_loop : (result l : ℕ) (rs : List Row) → n'.bindings ≡ n.bindings → set_of n'.bound ≡ insert (set_of n.bound) result → opens_told s.opens ≡ some body
+      → s.faults.a ≡ not (contains (set_of n.bound) (get_or (binding_at (bindings_of n.bindings) result).sources 0 0)) → s.faults.b ≡ false → s.faults.c ≡ false → JudgesStep n n' (Loop result) l rs s
   unfolding inside opens loop_unbound check_calls match_uses_own
-  judges_loop {m} {m'} {kept} {s} result l rs n r o a b c = record {
-    ready = r;
-    names = λ p xs. n;
+  judges_loop result l rs z e o a b c = record {
+    bindings = z;
+    names = λ p xs. e;
     frame = λ p xs. o;
     faults_a = record { is = λ y. a };
     faults_b = record { is = λ y. b };
     faults_c = record { is = λ y. c };
   }
 
-  pub judges_equal : {m : Marks} {kept : Kept} {s : Step} {first second : Bool} (a b l : ℕ) (rs : List Row) → Ready t m kept → opens_told s.opens ≡ some body
-      → Decides t (λ env bs. calls env bs m a) first → Decides t (λ env bs. calls env bs m b) second → s.faults.b ≡ (first || second) → s.faults.a ≡ false → s.faults.c ≡ false → JudgesStep t (Equal a b) l rs m m kept s
+  pub judges_return : (result pos l : ℕ) (rs : List Row) → NamesBecome n (set_of n.bound) n' → opens_told s.opens ≡ none
+      → Decides n.bindings (λ env bs. calls env bs (set_of n.bound) result) s.faults.b → s.faults.a ≡ false → s.faults.c ≡ false → JudgesStep n n' (Return result pos) l rs s
   unfolding inside opens loop_unbound check_calls match_uses_own
-  judges_equal a b l rs r o d e h x z = record {
-    ready = r;
-    names = λ p xs. refl;
-    frame = λ p xs. o;
-    faults_a = record { is = λ w. x };
-    faults_b = record { is = λ w. h ∙ rw (d.is w, e.is w) };
-    faults_c = record { is = λ w. z };
-  }
-
-  pub judges_return : {m : Marks} {kept : Kept} {s : Step} (result pos l : ℕ) (rs : List Row) → Ready t m kept → opens_told s.opens ≡ none
-      → Decides t (λ env bs. calls env bs m result) s.faults.b → s.faults.a ≡ false → s.faults.c ≡ false → JudgesStep t (Return result pos) l rs m m kept s
-  unfolding inside opens loop_unbound check_calls match_uses_own
-  judges_return result pos l rs r o d x z = record {
-    ready = r;
-    names = λ p xs. refl;
+  judges_return result pos l rs h o d x z = record {
+    bindings = h.bindings;
+    names = λ p xs. h.names;
     frame = λ p xs. o;
     faults_a = record { is = λ w. x };
     faults_b = d;
     faults_c = record { is = λ w. z };
   }
+
+  pub judges_equal : {n₁ : Names} {first second : Bool} (a b l : ℕ) (rs : List Row) → NamesBecome n (set_of n.bound) n₁ → NamesBecome n₁ (set_of n₁.bound) n' → opens_told s.opens ≡ some body
+      → Decides n.bindings (λ env bs. calls env bs (set_of n.bound) a) first → Decides n₁.bindings (λ env bs. calls env bs (set_of n₁.bound) b) second → s.faults.b ≡ (first || second) → s.faults.a ≡ false → s.faults.c ≡ false
+      → JudgesStep n n' (Equal a b) l rs s
+  unfolding inside opens loop_unbound check_calls match_uses_own
+  judges_equal {n₁} {first} {second} a b l rs g i o d e h x z =
+      let e' : Decides n.bindings (λ env bs. calls env bs (set_of n.bound) b) second = rw (g.bindings, g.names) at e in
+      record {
+        bindings = i.bindings ∙ g.bindings;
+        names = λ p xs. i.names ∙ g.names;
+        frame = λ p xs. o;
+        faults_a = record { is = λ w. x };
+        faults_b = record { is = λ w. h ∙ rw (d.is w, e'.is w) };
+        faults_c = record { is = λ w. z };
+      }
 
 -- a match of level l before the rows from row r on, by its arms
 module _ (words rows : List ℕ) (l r last : ℕ) where
@@ -353,58 +315,73 @@ module _ (words rows : List ℕ) (l r last : ℕ) where
       by_room true h = rw (rows_next words rows r last (ltb-true r last h)) (by_kind (ltb (nth (cut words rows r) 1) 4) refl (rows_from words rows last (r + 1)))
       by_room false h = rw (rows_none words rows r last (ltb-false r last h)) (λ m bs q. (refl, refl, refl))
 
-  -- what a match does, by its arms
-  pub judges_match : {t : Bindings} {arms : Arms} {m m' : Marks} {kept : Kept} {s : Step} (q : ℕ) → arms ≡ arms_in l after → m' ≡ arm_names arms (cut words rows r) m → Ready t m' kept → opens_told s.opens ≡ opened_by arms q
-      → Decides t (λ env bs. calls env bs m' q) s.faults.b → Decides t (λ env bs. arm_own arms bs m q (cut words rows r)) s.faults.c → s.faults.a ≡ false → JudgesStep t (Match q) l after m m' kept s
+  -- what a match does, by its arms: n₁ is of the names after the pattern of its one arm
+  pub judges_match : {n n₁ n' : Names} {arms : Arms} {s : Step} (q : ℕ) → arms ≡ arms_in l after → NamesBecome n (arm_names arms (cut words rows r) (set_of n.bound)) n₁ → NamesBecome n₁ (set_of n₁.bound) n'
+      → opens_told s.opens ≡ opened_by arms q → Decides n₁.bindings (λ env bs. calls env bs (set_of n₁.bound) q) s.faults.b
+      → Decides n.bindings (λ env bs. arm_own arms bs (set_of n.bound) q (cut words rows r)) s.faults.c → s.faults.a ≡ false → JudgesStep n n' (Match q) l after s
   unfolding inside opens loop_unbound check_calls match_uses_own
-  judges_match {t} {arms} {m} {m'} {kept} {s} q e n y o b c x =
-      let names : m' ≡ match_inside (arm_count l after) after m = n ∙ ap (λ (a : Arms). arm_names a (cut words rows r) m) e ∙ sym (match_arms m [] q).0 in
+  judges_match {n} {n₁} {n'} {arms} {s} q e g i o b c x =
+      let names : set_of n₁.bound ≡ match_inside (arm_count l after) after (set_of n.bound) = g.names ∙ ap (λ (a : Arms). arm_names a (cut words rows r) (set_of n.bound)) e ∙ sym (match_arms (set_of n.bound) [] q).0 in
+      let b' : Decides n.bindings (λ env bs. calls env bs (match_inside (arm_count l after) after (set_of n.bound)) q) s.faults.b = rw (g.bindings, names) at b in
       record {
-        ready = y;
-        names = λ p xs. names;
-        frame = λ p xs. o ∙ ap (λ (a : Arms). opened_by a q) e ∙ sym (match_arms m [] q).1;
+        bindings = i.bindings ∙ g.bindings;
+        names = λ p xs. i.names ∙ names;
+        frame = λ p xs. o ∙ ap (λ (a : Arms). opened_by a q) e ∙ sym (match_arms (set_of n.bound) [] q).1;
         faults_a = record { is = λ w. x };
-        faults_b = record { is = λ w. b.is w ∙ ap (λ (u : Marks). calls (env_of t.plan.now) (bindings_of t) u q) names };
-        faults_c = record { is = λ w. c.is w ∙ ap (λ (a : Arms). arm_own a (bindings_of t) m q (cut words rows r)) e ∙ sym (match_arms m (bindings_of t) q).2 };
+        faults_b = b';
+        faults_c = record { is = λ w. c.is w ∙ ap (λ (a : Arms). arm_own a (bindings_of n.bindings) (set_of n.bound) q (cut words rows r)) e ∙ sym (match_arms (set_of n.bound) (bindings_of n.bindings) q).2 };
       }
 
 -- ROWS
 
-module _ {t : Bindings} {m m' : Marks} {scopes : List (List Bool)} {top : ℕ} {scope : List Bool} {scopes' : List (List Bool)} {kept : Kept} (ws : List ℕ) (rs : List Row) where
-  pub judges_arm : {p : Purpose} {s : Step} → ltb (nth ws 1) 4 ≡ false → JudgesArm t p (patterns_in (drop 7 ws)) m m' kept s → Saved (nth ws 1) scopes top scope scopes' → set_of scope ≡ m → JudgesRow t p (nth ws 1) (block_of ws) rs m m' scopes top scopes' kept s
+module _ {n n' : Names} {saved : List Bool} (ws : List ℕ) (rs : List Row) where
+  pub judges_arm : {p : Purpose} {s : Step} → ltb (nth ws 1) 4 ≡ false → JudgesArm n n' p (patterns_in (drop 7 ws)) s → ((nth ws 1 ≡ 3 → ⊥) → saved ≡ n.bound) → JudgesRow n n' p (nth ws 1) (block_of ws) rs saved s
   unfolding inside opens after_list row_faults
-  judges_arm {p} {s} h a v o = rw (arm_is ws h) (record {
-    ready = a.ready;
+  judges_arm {p} {s} h a v = rw (arm_is ws h) (record {
+    bindings = a.bindings;
     names = a.names;
     frame = a.frame;
-    scope = scope;
-    saved = v;
-    outside = o;
+    saved = λ k. ap set_of (v k);
     faults_a = record { is = λ l. a.none_a };
     faults_b = record { is = λ l. a.none_b };
     faults_c = record { is = λ l. a.none_c };
   })
 
-  pub judges_step : {p : Purpose} {s s' : Step} {found : Bool} → ltb (nth ws 1) 4 ≡ true → JudgesStep t (control_flow_of ws) (nth ws 0) rs (listed (drop 7 ws) m) m' kept s → Decides t (λ env bs. list_calls env bs m (drop 7 ws)) found
-      → Saved (nth ws 1) scopes top scope scopes' → set_of scope ≡ listed (drop 7 ws) m → s'.faults.a ≡ s.faults.a → s'.faults.b ≡ (s.faults.b || found) → s'.faults.c ≡ s.faults.c → s'.opens ≡ s.opens → JudgesRow t p (nth ws 1) (block_of ws) rs m m' scopes top scopes' kept s'
+  -- n₁ is of the names after the list
+  judges_step : {n₁ : Names} {p : Purpose} {s s' : Step} {found : Bool} → ltb (nth ws 1) 4 ≡ true → NamesBecome n (listed (drop 7 ws) (set_of n.bound)) n₁
+      → Decides n.bindings (λ env bs. list_calls env bs (set_of n.bound) (drop 7 ws)) found → JudgesStep n₁ n' (control_flow_of ws) (nth ws 0) rs s → ((nth ws 1 ≡ 3 → ⊥) → saved ≡ n₁.bound)
+      → s'.faults.a ≡ s.faults.a → s'.faults.b ≡ (s.faults.b || found) → s'.faults.c ≡ s.faults.c → s'.opens ≡ s.opens → JudgesRow n n' p (nth ws 1) (block_of ws) rs saved s'
   unfolding after_list row_faults
-  judges_step {p} {s} {s'} {found} h j d v o a b c q = rw (step_is ws h) (record {
-    ready = j.ready;
-    names = j.names p (drop 7 ws);
-    frame = ap opens_told q ∙ j.frame p (drop 7 ws);
-    scope = scope;
-    saved = v;
-    outside = o;
-    faults_a = record { is = λ l. a ∙ j.faults_a.is l };
-    faults_b = record { is = λ l. b ∙ or_comm s.faults.b found ∙ rw (d.is l, j.faults_b.is l) };
-    faults_c = record { is = λ l. c ∙ j.faults_c.is l };
-  })
+  judges_step {n₁} {p} {s} {s'} {found} h g d j v a b c q =
+      let ja : Decides n.bindings (λ env bs. loop_unbound bs (listed (drop 7 ws) (set_of n.bound)) (control_flow_of ws)) s.faults.a = rw (g.bindings, g.names) at j.faults_a in
+      let jb : Decides n.bindings (λ env bs. check_calls env bs (listed (drop 7 ws) (set_of n.bound)) (nth ws 0) (control_flow_of ws) rs) s.faults.b = rw (g.bindings, g.names) at j.faults_b in
+      let jc : Decides n.bindings (λ env bs. match_uses_own bs (listed (drop 7 ws) (set_of n.bound)) (nth ws 0) (control_flow_of ws) rs) s.faults.c = rw (g.bindings, g.names) at j.faults_c in
+      rw (step_is ws h) (record {
+        bindings = j.bindings ∙ g.bindings;
+        names = rw g.names at (j.names p (drop 7 ws));
+        frame = ap opens_told q ∙ j.frame p (drop 7 ws);
+        saved = λ k. ap set_of (v k) ∙ g.names;
+        faults_a = record { is = λ l. a ∙ ja.is l };
+        faults_b = record { is = λ l. b ∙ or_comm s.faults.b found ∙ rw (d.is l, jb.is l) };
+        faults_c = record { is = λ l. c ∙ jc.is l };
+      })
+
+-- the same as code reads the row after the list
+pub judges_listed : {n n₁ n' : Names} {saved : List Bool} {p : Purpose} {s s' : Step} {found : Bool} (r last : ℕ) → ltb (nth (words_of n.bindings.plan.now r) 1) 4 ≡ true → NamesBecome n (listed (drop 7 (words_of n.bindings.plan.now r)) (set_of n.bound)) n₁
+    → Decides n.bindings (λ env bs. list_calls env bs (set_of n.bound) (drop 7 (words_of n.bindings.plan.now r))) found
+    → JudgesStep n₁ n' (control_flow_of (words_of n₁.bindings.plan.now r)) (nth (words_of n₁.bindings.plan.now r) 0) (rows_in n₁.bindings.plan.now last (r + 1)) s → ((nth (words_of n₁.bindings.plan.now r) 1 ≡ 3 → ⊥) → saved ≡ n₁.bound)
+    → s'.faults.a ≡ s.faults.a → s'.faults.b ≡ (s.faults.b || found) → s'.faults.c ≡ s.faults.c → s'.opens ≡ s.opens
+    → JudgesRow n n' p (nth (words_of n.bindings.plan.now r) 1) (block_of (words_of n.bindings.plan.now r)) (rows_in n.bindings.plan.now last (r + 1)) saved s'
+judges_listed {n} {n₁} {n'} {saved} {p} {s} r last h g d j v =
+    judges_step (words_of n.bindings.plan.now r) (rows_in n.bindings.plan.now last (r + 1)) h g d
+    (subst (λ (t : Bindings). JudgesStep n₁ n' (control_flow_of (words_of t.plan.now r)) (nth (words_of t.plan.now r) 0) (rows_in t.plan.now last (r + 1)) s) g.bindings j)
+    (subst (λ (t : Bindings). (nth (words_of t.plan.now r) 1 ≡ 3 → ⊥) → saved ≡ n₁.bound) g.bindings v)
 
 -- an arm that is no arm of a match of several
-module _ {t : Bindings} {m : Marks} {kept : Kept} {s : Step} where
-  pub arm_other : (p : code.Purpose) (ps : List (Option ℕ)) → ((q : ℕ) → p ≡ purposes.ArmsOf q → ⊥) → Ready t m kept → s.opens ≡ None → s.faults.a ≡ false → s.faults.b ≡ false → s.faults.c ≡ false → JudgesArm t (purpose_told p) ps m m kept s
+module _ {n : Names} {s : Step} where
+  pub arm_other : (p : code.Purpose) (ps : List (Option ℕ)) → ((q : ℕ) → p ≡ purposes.ArmsOf q → ⊥) → s.opens ≡ None → s.faults.a ≡ false → s.faults.b ≡ false → s.faults.c ≡ false → JudgesArm n n (purpose_told p) ps s
   unfolding arm_inside arm_opens
-  arm_other purposes.OneArm ps h y o a b c = record { ready = y; names = refl; frame = ap opens_told o; none_a = a; none_b = b; none_c = c }
-  arm_other (purposes.ArmsOf q) ps h y o a b c = absurd (h q refl)
-  arm_other purposes.ArmBody ps h y o a b c = record { ready = y; names = refl; frame = ap opens_told o; none_a = a; none_b = b; none_c = c }
-  arm_other purposes.Body ps h y o a b c = record { ready = y; names = refl; frame = ap opens_told o; none_a = a; none_b = b; none_c = c }
+  arm_other purposes.OneArm ps h o a b c = record { bindings = refl; names = refl; frame = ap opens_told o; none_a = a; none_b = b; none_c = c }
+  arm_other (purposes.ArmsOf q) ps h o a b c = absurd (h q refl)
+  arm_other purposes.ArmBody ps h o a b c = record { bindings = refl; names = refl; frame = ap opens_told o; none_a = a; none_b = b; none_c = c }
+  arm_other purposes.Body ps h o a b c = record { bindings = refl; names = refl; frame = ap opens_told o; none_a = a; none_b = b; none_c = c }

@@ -1,4 +1,5 @@
 pub mod Ready
+pub mod Names
 pub mod Arms
 pub mod Step
 pub mod Row

@@ -6,19 +6,19 @@ ghost use Rattle.codegen.specs.Writer.{contains};
 ghost use Rattle.rows.specs.View.{nth};
 ghost use Rattle.view.specs.Buffers.{words_of};
 ghost use Rattle.view.specs.Told.{control_flow_of};
-ghost use Rattle.row_faults.specs.Arms.{rows_in};
+ghost use Rattle.row_frames.specs.Rows.{rows_in};
 ghost use Rattle.emits.specs.Marks.{set_of};
 ghost use Rattle.schedule_rules.specs.Faults.{calls};
 ghost use Rattle.expr_faults.specs.Kept.{bindings_of};
-ghost use Rattle.row_faults.specs.Ready.{Ready, Decides};
+ghost use Rattle.row_faults.specs.Ready.{Decides};
+ghost use Rattle.row_faults.specs.Names.{NamesBecome};
 ghost use Rattle.row_faults.specs.Step.{JudgesStep};
 
-use super::matches::{arms_of, name_arm, opened_by};
-use super::names::bind;
+use super::matches::name_arm;
+use super::names::Names;
 use emits::stablemapset::contains;
-use expr_faults::kept::Kept;
-use expr_faults::written::{Bindings, Question, expr_holds};
-use row_frames::Purpose;
+use expr_faults::written::{Question, expr_holds};
+use row_frames::{Purpose, arms_of, opened_by};
 use view::block::ControlFlow;
 
 // The faults of a row, by their letters.
@@ -45,43 +45,34 @@ pub struct Step {
 }
 
 // (a): whether the iterator source of this result has no name.
-fn loop_unbound(bound: &[bool], bindings: &Bindings<'_>, res: usize) -> bool
-    ensures { result ≡ not (contains (set_of bound.now) (get_or (binding_at (bindings_of bindings.now) res).sources 0 0)) }
+#[tactic(auto, using(crate::proofs::Laws::first_source))]
+fn loop_unbound(names: &Names<'_>, res: usize) -> bool
+    ensures { result ≡ not (contains (set_of names.now.bound) (get_or (binding_at (bindings_of names.now.bindings) res).sources 0 0)) }
 {
-    let q = bindings
-        .plan
-        .word(bindings.plan.row_at(bindings.table, res), 6);
-    !contains(bound, q)
+    let plan = names.bindings.plan;
+    let q = plan.word(plan.row_at(names.bindings.table, res), 6);
+    !contains(&names.bound, q)
 }
 
 // (b) of a result, or of one side of an `equal`.
-fn expr_calls(kept: &mut Kept<'_>, bound: &[bool], bindings: &Bindings<'_>, b: usize) -> bool
-    requires { Ready bindings.now (set_of bound.now) kept.old }
-    ensures ready { Ready bindings.now (set_of bound.now) kept.new }
-    ensures found { Decides bindings.now (λ env bs. calls env bs (set_of bound.now) b) result }
+fn expr_calls(names: &mut Names<'_>, b: usize) -> bool
+    ensures names { NamesBecome names.old (set_of names.old.bound) names.new }
+    ensures found { Decides names.old.bindings (λ env bs. calls env bs (set_of names.old.bound) b) result }
 {
     let question = Question {
-        bound,
+        bound: &names.bound,
         before: None,
     };
-    expr_holds(kept, &question, bindings, b)
+    expr_holds(&mut names.kept, &question, &names.bindings, b)
 }
 
-// A match with this source.
-fn judge_match(
-    kept: &mut Kept<'_>,
-    bound: &mut [bool; 1024],
-    bindings: &Bindings<'_>,
-    r: usize,
-    last: usize,
-    q: usize,
-) -> Step
-    requires { (r < last) × (last < 4294967296) × Ready bindings.now (set_of bound.old) kept.old }
-    ensures { JudgesStep bindings.now (Match q) (nth (words_of bindings.now.plan.now r) 0) (rows_in bindings.now.plan.now last (r + 1)) (set_of bound.old) (set_of bound.new) kept.new result }
+// A match of a level with this source, where the rows from row `first` up to row `last` stand after it.
+fn judge_match(names: &mut Names<'_>, level: usize, first: usize, last: usize, q: usize) -> Step
+    ensures { JudgesStep names.old names.new (Match q) level (rows_in names.old.bindings.plan.now last first) result }
 {
-    let arms = arms_of(bindings.plan, r, last);
-    let own = name_arm(kept, bound, bindings, q, r + 1, arms);
-    let calls = expr_calls(kept, bound, bindings, q);
+    let arms = arms_of(names.bindings.plan, level, first, last);
+    let own = name_arm(names, q, first, arms);
+    let calls = expr_calls(names, q);
     Step {
         faults: Letters {
             b: calls,
@@ -93,17 +84,11 @@ fn judge_match(
 }
 
 // A loop with this result.
-fn judge_loop(
-    kept: &mut Kept<'_>,
-    bound: &mut [bool; 1024],
-    bindings: &Bindings<'_>,
-    res: usize,
-) -> Step
-    requires { Ready bindings.now (set_of bound.old) kept.old }
-    ensures { (l : ℕ) (rs : List Row) → JudgesStep bindings.now (Loop res) l rs (set_of bound.old) (set_of bound.new) kept.new result }
+fn judge_loop(names: &mut Names<'_>, res: usize) -> Step
+    ensures { (l : ℕ) (rs : List Row) → JudgesStep names.old names.new (Loop res) l rs result }
 {
-    let unbound = loop_unbound(bound, bindings, res);
-    bind(kept, bound, res);
+    let unbound = loop_unbound(names, res);
+    names.bind(res);
     Step {
         faults: Letters {
             a: unbound,
@@ -114,21 +99,16 @@ fn judge_loop(
 }
 
 // Row r, a step, after its list.
-pub fn judge_check(
-    kept: &mut Kept<'_>,
-    bound: &mut [bool; 1024],
-    bindings: &Bindings<'_>,
-    r: usize,
-    last: usize,
-) -> Step
-    requires { (r < last) × (last < 4294967296) × Ready bindings.now (set_of bound.old) kept.old }
-    ensures { JudgesStep bindings.now (control_flow_of (words_of bindings.now.plan.now r)) (nth (words_of bindings.now.plan.now r) 0) (rows_in bindings.now.plan.now last (r + 1)) (set_of bound.old) (set_of bound.new) kept.new result }
+pub fn judge_check(names: &mut Names<'_>, r: usize, last: usize) -> Step
+    requires { r < last }
+    ensures { let ws = words_of names.old.bindings.plan.now r in JudgesStep names.old names.new (control_flow_of ws) (nth ws 0) (rows_in names.old.bindings.plan.now last (r + 1)) result }
 {
-    match bindings.plan.control_flow_at(r) {
-        ControlFlow::Match { source } => judge_match(kept, bound, bindings, r, last, source),
+    let plan = names.bindings.plan;
+    match plan.control_flow_at(r) {
+        ControlFlow::Match { source } => judge_match(names, plan.word(r, 0), r + 1, last, source),
         ControlFlow::Equal { a, b } => {
-            let first = expr_calls(kept, bound, bindings, a);
-            let second = expr_calls(kept, bound, bindings, b);
+            let first = expr_calls(names, a);
+            let second = expr_calls(names, b);
             Step {
                 faults: Letters {
                     b: first | second,
@@ -137,9 +117,9 @@ pub fn judge_check(
                 opens: Some(Purpose::Body),
             }
         }
-        ControlFlow::Loop { result } => judge_loop(kept, bound, bindings, result),
+        ControlFlow::Loop { result } => judge_loop(names, result),
         ControlFlow::Return { result, pos: _ } => {
-            let found = expr_calls(kept, bound, bindings, result);
+            let found = expr_calls(names, result);
             Step {
                 faults: Letters {
                     b: found,

@@ -1,51 +1,54 @@
-// Bindings get names. The answers that were kept for the names before are given up only where a name is new.
-ghost use Rattle.std.specs.Prelude.{◌≡◌, false, [], ◌∷◌, drop};
+// The names of a term's bindings, and the answers that are kept for them: these are given up only where a name is new.
+ghost use Rattle.std.specs.Prelude.{◌≡◌};
 ghost use Rattle.codegen.specs.Writer.{insert};
-ghost use Rattle.codegen.specs.Pattern.{bind_all};
-ghost use Rattle.rows.specs.View.{pattern_of, patterns_in};
-ghost use Rattle.view.specs.Buffers.{words_of};
+ghost use Rattle.codegen.specs.Terms.{no_marks};
 ghost use Rattle.emits.specs.Marks.{set_of};
-ghost use Rattle.expr_faults.specs.declared.written.Bindings.{Bindings};
 ghost use Rattle.row_faults.specs.Ready.{Ready};
 
-use emits::stablemapset::{contains, insert};
+use emits::stablemapset::{empty, insert};
 use expr_faults::kept::Kept;
-use lists::UNBOUND;
-use view::buffers::Plan;
+use expr_faults::written::Bindings;
 
-// Binding b gets a name.
-pub fn bind(kept: &mut Kept<'_>, bound: &mut [bool], b: usize)
-    ensures names { set_of bound.new ≡ insert (set_of bound.old) b }
-    ensures ready { (t : Bindings) → Ready t (set_of bound.old) kept.old → Ready t (set_of bound.new) kept.new }
-{
-    if contains(bound, b) {
-        return;
-    }
-    insert(bound, b);
-    kept.raise();
+// Which of these bindings have names at a row, and what is kept of the answers where these have.
+#[derive(Drop)]
+pub struct Names<'a> {
+    pub bindings: Bindings<'a>,
+    pub bound: [bool; 1024],
+    pub kept: Kept<'a>,
+    ghost ready: { Ready bindings (set_of bound) kept },
 }
 
-// One binding of a pattern, or `_`: whether it is a new name.
-#[tactic(auto, using(row_frames::specs::Patterns::bind_none, row_frames::specs::Patterns::bind_some, crate::proofs::Laws::bind_there))]
-fn bind_pattern(bound: &mut [bool], b: usize) -> bool
-    ensures names { set_of bound.new ≡ bind_all (pattern_of b ∷ []) (set_of bound.old) }
-    ensures same { result ≡ false → set_of bound.new ≡ set_of bound.old }
-{
-    if b == UNBOUND as usize || contains(bound, b) {
-        return false;
+impl<'a> Names<'a> {
+    // No binding has a name yet. Lent is room for the answers.
+    pub fn new(bindings: Bindings<'a>, answers: &'a mut [u32]) -> Names<'a>
+        ensures bindings { result.bindings ≡ bindings.entry }
+        ensures names { set_of result.bound ≡ no_marks }
+    {
+        Names {
+            bindings,
+            bound: empty(),
+            kept: Kept::new(answers),
+        }
     }
-    insert(bound, b);
-    true
 }
 
-// The bindings of the pattern of row r get names: whether one of them is new. `bind_all` of `pattern`, which is codegen.rs's, tells nothing.
-pub fn bind_patterns(bound: &mut [bool], plan: &Plan<'_>, r: usize) -> bool
-    ensures names { set_of bound.new ≡ bind_all (patterns_in (drop 7 (words_of plan.now r))) (set_of bound.old) }
-    ensures same { result ≡ false → set_of bound.new ≡ set_of bound.old }
-{
-    let mut new = false;
-    for word in plan.row(r).iter().skip(7) {
-        new |= bind_pattern(bound, *word as usize);
+impl Names<'_> {
+    // Binding b gets a name.
+    pub(super) fn bind(&mut self, b: usize)
+        ensures bindings { self.new.bindings ≡ self.old.bindings }
+        ensures names { set_of self.new.bound ≡ insert (set_of self.old.bound) b }
+    {
+        if insert(&mut self.bound, b) {
+            self.kept.raise();
+        }
     }
-    new
+
+    // The names are those that were kept where a frame opened.
+    pub fn restore(&mut self, bound: &[bool; 1024])
+        ensures bindings { self.new.bindings ≡ self.old.bindings }
+        ensures names { self.new.bound ≡ bound.now }
+    {
+        self.kept.raise();
+        self.bound = *bound;
+    }
 }

@@ -1,4 +1,4 @@
+pub mod Arms
 pub mod Patterns
 pub mod Rows
-pub mod Scopes
 pub mod Told

@@ -6,10 +6,15 @@ use Rattle.rows.specs.View.{block_of}
 use Rattle.layout.specs.View.{cut, cuts}
 use Rattle.schedule_rules.specs.Passes.{Each}
 use Rattle.view.proofs.Laws.{cuts_next, cuts_none}
+use Rattle.view.specs.declared.buffers.Plan.{Plan}
 
 -- the rows from row r up to row `last`
 abbrev pub rows_from : List ℕ → List ℕ → ℕ → ℕ → List Row
 rows_from words rows last r = map block_of (cuts words rows r (last - r))
+
+-- the same of a plan
+abbrev pub rows_in : Plan → ℕ → ℕ → List Row
+rows_in p last r = rows_from p.words.now p.rows.now last r
 
 module _ (words rows : List ℕ) (r last : ℕ) where
   pub rows_next : r < last → rows_from words rows last r ≡ block_of (cut words rows r) ∷ rows_from words rows last (r + 1)

@@ -24,3 +24,8 @@ opened (some p) = p
 abbrev pub opening : Option block.Purpose → ℕ
 opening none = 0
 opening (some p) = 1
+
+-- a binding, or `_`
+abbrev pub pattern_told : code.Option ℕ → Option ℕ
+pattern_told None = none
+pattern_told (Some b) = some b

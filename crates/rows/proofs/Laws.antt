@@ -1,5 +1,6 @@
 -- Laws of the rows' words. Assumes nothing.
-use Prim.Native.Nat.{ℕ, suc}
+use Prim.Native.Nat.{ℕ, suc, ◌/◌}
+use native.Mathlib.Omega.{arith}
 use mathlib.Core.Path.{◌≡◌, refl, ap}
 use mathlib.Core.Bool.{true, false}
 use mathlib.Core.List.{List, [], ◌∷◌}
@@ -11,6 +12,7 @@ use borrow.Author.Tests.{eq-eqb, ne_eqb}
 use Rattle.text.specs.Split.{split, same}
 use Rattle.tokens.specs.Token.{place}
 use Rattle.plan.specs.Layout.{row}
+use Rattle.rows.specs.View.{fields_in}
 
 -- a row of n values, by the count of the columns
 module _ (n : ℕ) (read : List (List ℕ) → Option (List ℕ)) (line : List ℕ) where
@@ -35,3 +37,10 @@ place_here t n ns h = rw h
 pub place_past : (t n : List ℕ) (ns : List (List ℕ)) (k : ℕ) → same t n ≡ false → place ns t ≡ k → place (n ∷ ns) t ≡ suc k
 unfolding place
 place_past t n ns k h e = rw h (ap suc e)
+
+-- a named field has two words
+pub fields_length : (ws : List ℕ) → length (fields_in ws) ≡ length ws / 2
+unfolding fields_in
+fields_length [] = refl
+fields_length (n ∷ []) = refl
+fields_length (n ∷ t ∷ ws) = omega (arith, fields_length ws)

@@ -1,5 +1,5 @@
--- The kinds of rows, as their numbers. Assumes nothing: these are definitions.
-use Rattle.std.specs.Prelude.{ℕ}
+-- The kinds of rows, as their numbers, and back. Assumes nothing: these are definitions.
+use Rattle.std.specs.Prelude.{ℕ, cond, eqb}
 use Rattle.rows.specs.declared.kinds.TypeKind.{TypeKind}
 use Rattle.rows.specs.declared.kinds.TypeKind.TheVariants as of_type
 use Rattle.rows.specs.declared.kinds.Shape.{Shape}
@@ -48,3 +48,47 @@ block_number of_block.ConstPrim = 6
 block_number of_block.Variant = 7
 block_number of_block.Struct = 8
 block_number of_block.Some = 9
+
+-- a number of no kind is as `tuple`
+abbrev pub type_kind : ℕ → TypeKind
+type_kind n =
+    cond (eqb n 0) of_type.Prim
+    (cond (eqb n 1) of_type.Enum
+    (cond (eqb n 2) of_type.Unit
+    (cond (eqb n 3) of_type.Named of_type.Tuple)))
+
+-- a number of no kind is as `tuple`
+abbrev pub shape_kind : ℕ → Shape
+shape_kind n =
+    cond (eqb n 0) of_variant.Unit
+    (cond (eqb n 1) of_variant.Named of_variant.Tuple)
+
+-- a number of no kind is as `iter`
+abbrev pub binding_kind : ℕ → BindingKind
+binding_kind n =
+    cond (eqb n 0) of_binding.ConstBool
+    (cond (eqb n 1) of_binding.ConstInt
+    (cond (eqb n 2) of_binding.ConstPrim
+    (cond (eqb n 3) of_binding.Argument
+    (cond (eqb n 4) of_binding.Extractor
+    (cond (eqb n 5) of_binding.Constructor
+    (cond (eqb n 7) of_binding.MakeVariant
+    (cond (eqb n 8) of_binding.MakeStruct
+    (cond (eqb n 9) of_binding.MakeSome
+    (cond (eqb n 10) of_binding.MatchSome
+    (cond (eqb n 11) of_binding.MatchTuple
+    (cond (eqb n 12) of_binding.MatchVariant
+    (cond (eqb n 13) of_binding.ExtractStruct of_binding.Iterator))))))))))))
+
+-- a number of no kind is as `some`
+abbrev pub block_kind : ℕ → BlockKind
+block_kind n =
+    cond (eqb n 0) of_block.Match
+    (cond (eqb n 1) of_block.Equal
+    (cond (eqb n 2) of_block.Loop
+    (cond (eqb n 3) of_block.Return
+    (cond (eqb n 4) of_block.ConstBool
+    (cond (eqb n 5) of_block.ConstInt
+    (cond (eqb n 6) of_block.ConstPrim
+    (cond (eqb n 7) of_block.Variant
+    (cond (eqb n 8) of_block.Struct of_block.Some))))))))

@@ -1,17 +1,20 @@
 // The kinds of rows, by their names, and what the other values of a row are for each. The names are compared one by one: the default arm of
-// a `match` on them knows of the bytes alone, and its proof does not close. The numbers are those of the buffers' words (document 01).
-ghost use Rattle.std.specs.Prelude.{◌≡◌, get_or, option_map};
+// a `match` on them knows of the bytes alone, and its proof does not close. What reads a name answers an Option: with `TryFrom` the error's
+// type would say nothing. The numbers are those of the buffers' words (document 01); a word of no kind is read too, as the definition reads it.
+ghost use Rattle.std.specs.Prelude.{◌≡◌, ℕ, List, length, ltb, get_or, option_map};
+ghost use Rattle.plan.specs.Lookup.{field_count};
 ghost use Rattle.tokens.specs.Token.{told, place};
 ghost use Rattle.values.specs.Value.{kind_word};
 ghost use Rattle.values.specs.Cell.{cell_number, wide_number};
 ghost use Rattle.lists.specs.Lists.{sort_number};
 ghost use Rattle.rows.specs.Row.{type_kinds, type_bits, type_poss, type_lists, shape_kinds, shape_lists, binding_kinds, binding_as, binding_bs, block_kinds, block_as, block_bs, block_lists};
-ghost use Rattle.rows.specs.Kinds.{type_number, shape_number, binding_number, block_number};
+ghost use Rattle.rows.specs.View.{shape_of};
+ghost use Rattle.rows.specs.Kinds.{type_number, type_kind, shape_number, shape_kind, binding_number, binding_kind, block_number, block_kind};
 
 use lists::ListOf;
 use values::{Cell, WideCell};
 
-#[derive(Clone, Copy)]
+#[derive(Clone, Copy, PartialEq, Eq)]
 pub enum TypeKind {
     Prim,
     Enum,
@@ -38,12 +41,6 @@ impl TypeKind {
         } else {
             None
         }
-    }
-
-    pub fn number(self) -> u32
-        ensures { result ≡ type_number self }
-    {
-        self as u32
     }
 
     // What `extern` and `nodebug` are.
@@ -76,8 +73,30 @@ impl TypeKind {
     }
 }
 
+impl From<TypeKind> for u32 {
+    ghost from_gives = { λ kind n. n ≡ type_number kind };
+
+    fn from(kind: TypeKind) -> u32 {
+        kind as u32
+    }
+}
+
+impl From<u32> for TypeKind {
+    ghost from_gives = { λ n kind. kind ≡ type_kind n };
+
+    fn from(n: u32) -> TypeKind {
+        match n {
+            0 => TypeKind::Prim,
+            1 => TypeKind::Enum,
+            2 => TypeKind::Unit,
+            3 => TypeKind::Named,
+            _ => TypeKind::Tuple,
+        }
+    }
+}
+
 // The shapes of variants.
-#[derive(Clone, Copy)]
+#[derive(Clone, Copy, PartialEq, Eq)]
 pub enum Shape {
     Unit,
     Named,
@@ -100,12 +119,6 @@ impl Shape {
         }
     }
 
-    pub fn number(self) -> u32
-        ensures { result ≡ shape_number self }
-    {
-        self as u32
-    }
-
     pub fn list(self) -> Option<ListOf>
         ensures { sort_number result ≡ get_or shape_lists (shape_number self) 0 }
     {
@@ -115,9 +128,41 @@ impl Shape {
             Shape::Tuple => Some(ListOf::Numbers),
         }
     }
+
+    // How many fields there are with a list of n words.
+    #[tactic(auto, using(crate::proofs::Laws::fields_length), unfolding(crate::specs::View::shape_of))]
+    pub fn field_count(self, n: usize) -> usize
+        ensures { (ws : List ℕ) → n ≡ length ws → result ≡ field_count (shape_of (shape_number self) ws) }
+    {
+        match self {
+            Shape::Unit => 0,
+            Shape::Named => n / 2,
+            Shape::Tuple => n,
+        }
+    }
 }
 
-#[derive(Clone, Copy)]
+impl From<Shape> for u32 {
+    ghost from_gives = { λ kind n. n ≡ shape_number kind };
+
+    fn from(kind: Shape) -> u32 {
+        kind as u32
+    }
+}
+
+impl From<u32> for Shape {
+    ghost from_gives = { λ n kind. kind ≡ shape_kind n };
+
+    fn from(n: u32) -> Shape {
+        match n {
+            0 => Shape::Unit,
+            1 => Shape::Named,
+            _ => Shape::Tuple,
+        }
+    }
+}
+
+#[derive(Clone, Copy, PartialEq, Eq)]
 pub enum BindingKind {
     ConstBool,
     ConstInt,
@@ -173,12 +218,6 @@ impl BindingKind {
         }
     }
 
-    pub fn number(self) -> u32
-        ensures { result ≡ binding_number self }
-    {
-        self as u32
-    }
-
     pub fn a(self) -> Cell
         ensures { cell_number result ≡ get_or binding_as (binding_number self) 0 }
     {
@@ -202,8 +241,39 @@ impl BindingKind {
     }
 }
 
+impl From<BindingKind> for u32 {
+    ghost from_gives = { λ kind n. n ≡ binding_number kind };
+
+    fn from(kind: BindingKind) -> u32 {
+        kind as u32
+    }
+}
+
+impl From<u32> for BindingKind {
+    ghost from_gives = { λ n kind. kind ≡ binding_kind n };
+
+    fn from(n: u32) -> BindingKind {
+        match n {
+            0 => BindingKind::ConstBool,
+            1 => BindingKind::ConstInt,
+            2 => BindingKind::ConstPrim,
+            3 => BindingKind::Argument,
+            4 => BindingKind::Extractor,
+            5 => BindingKind::Constructor,
+            7 => BindingKind::MakeVariant,
+            8 => BindingKind::MakeStruct,
+            9 => BindingKind::MakeSome,
+            10 => BindingKind::MatchSome,
+            11 => BindingKind::MatchTuple,
+            12 => BindingKind::MatchVariant,
+            13 => BindingKind::ExtractStruct,
+            _ => BindingKind::Iterator,
+        }
+    }
+}
+
 // The kinds of steps, then those of arms.
-#[derive(Clone, Copy)]
+#[derive(Clone, Copy, PartialEq, Eq)]
 pub enum BlockKind {
     Match,
     Equal,
@@ -247,10 +317,14 @@ impl BlockKind {
         }
     }
 
-    pub fn number(self) -> u32
-        ensures { result ≡ block_number self }
+    // Whether a row of this kind is a step, and no arm.
+    pub fn is_step(self) -> bool
+        ensures { result ≡ ltb (block_number self) 4 }
     {
-        self as u32
+        matches!(
+            self,
+            BlockKind::Match | BlockKind::Equal | BlockKind::Loop | BlockKind::Return
+        )
     }
 
     pub fn a(self) -> Cell
@@ -283,6 +357,33 @@ impl BlockKind {
                 ListOf::Numbers,
             ),
             _ => Some(ListOf::Patterns),
+        }
+    }
+}
+
+impl From<BlockKind> for u32 {
+    ghost from_gives = { λ kind n. n ≡ block_number kind };
+
+    fn from(kind: BlockKind) -> u32 {
+        kind as u32
+    }
+}
+
+impl From<u32> for BlockKind {
+    ghost from_gives = { λ n kind. kind ≡ block_kind n };
+
+    fn from(n: u32) -> BlockKind {
+        match n {
+            0 => BlockKind::Match,
+            1 => BlockKind::Equal,
+            2 => BlockKind::Loop,
+            3 => BlockKind::Return,
+            4 => BlockKind::ConstBool,
+            5 => BlockKind::ConstInt,
+            6 => BlockKind::ConstPrim,
+            7 => BlockKind::Variant,
+            8 => BlockKind::Struct,
+            _ => BlockKind::Some,
         }
     }
 }

@@ -1,7 +1,7 @@
 // The rows of each table, from a text into words.
 #![tactic(auto)]
 
-mod kinds;
+pub mod kinds;
 
 ghost use Rattle.std.specs.Prelude.{◌≡◌, ◌+◌, ◌-◌, ◌<◌, length, get_or};
 ghost use Rattle.values.specs.Writes.{Writes};
@@ -46,7 +46,7 @@ fn put_type(line: &[u8], words: &mut Words<'_>) -> Option<()>
     let line = Line::of(line, 6)?;
     let kind = TypeKind::read(line.column(0))?;
     let bits = kind.bits();
-    words.push(kind.number())?;
+    words.push(kind.into())?;
     words.push_cell(Cell::Number, line.column(1))?;
     words.push_cell(bits, line.column(2))?;
     words.push_cell(bits, line.column(3))?;
@@ -62,7 +62,7 @@ fn put_variant(line: &[u8], words: &mut Words<'_>) -> Option<()>
     words.push_cell(Cell::Number, line.column(0))?;
     words.push_cell(Cell::Number, line.column(1))?;
     let shape = Shape::read(line.column(2))?;
-    words.push(shape.number())?;
+    words.push(shape.into())?;
     lists::put_list(shape.list(), line.column(3), words)
 }
 
@@ -96,7 +96,7 @@ fn put_binding(line: &[u8], words: &mut Words<'_>) -> Option<()>
 {
     let line = Line::of(line, 4)?;
     let kind = BindingKind::read(line.column(0))?;
-    words.push(kind.number())?;
+    words.push(kind.into())?;
     words.push_cell(kind.a(), line.column(1))?;
     words.push_wide(kind.b(), line.column(2))?;
     lists::put_list(Some(ListOf::Numbers), line.column(3), words)
@@ -109,7 +109,7 @@ fn put_block_row(line: &[u8], words: &mut Words<'_>) -> Option<()>
     let line = Line::of(line, 5)?;
     words.push_cell(Cell::Number, line.column(0))?;
     let kind = BlockKind::read(line.column(1))?;
-    words.push(kind.number())?;
+    words.push(kind.into())?;
     words.push_cell(kind.a(), line.column(2))?;
     words.push_wide(kind.b(), line.column(3))?;
     lists::put_list(kind.list(), line.column(4), words)

@@ -9,28 +9,39 @@ use lib.Dec.{eqb, ltb}
 use lib.ListN.{length, drop, get_or, get_or-map, get_or-eq_default}
 use borrow.Author.Tests.{ltb-true, ltb-false}
 use Rattle.literal.specs.BuiltinType.{all, builtin_int}
+use Rattle.literal.specs.declared.builtin_type.BuiltinType.{BuiltinType}
 use Rattle.literal.specs.declared.builtin_type.BuiltinType.TheVariants as builtin
-use Rattle.plan.specs.Plan.{unit, TypeData, Builtin, Primitive, Enum, Struct, FunctionKind, Term, Environment}
+use Rattle.plan.specs.Plan.{Field, unit, TypeData, Builtin, Primitive, Enum, Struct, FunctionKind, Term, Environment}
 use Rattle.plan.specs.Lookup.{type_at, variants_of, variant_at, term_at}
 use Rattle.rows.specs.View.{nth, fields_in, shape_of, declared_of, type_of, variant_of, term_of}
 use Rattle.layout.specs.View.{text_of, environment_of}
 use Rattle.view.specs.Tables.{environment_in}
 use Rattle.view.specs.Buffers.{words_of, rows_of, variants_in, env_of}
 use Rattle.view.specs.declared.buffers.Plan.{Plan}
-use Rattle.view.proofs.Made.{fields_length}
+use Rattle.rows.proofs.Laws.{fields_length}
+use Rattle.rows.specs.Kinds.{type_kind}
+use Rattle.rows.specs.contracts.kinds.TypeKind.{the_type}
+use Rattle.rows.specs.declared.kinds.TypeKind.{TypeKind}
+use Rattle.rows.specs.declared.kinds.TypeKind.TheVariants as kind
+use denote.Enum.Bare.{sameb}
+use denote.Enum.Declared.{tag_of}
 use Rattle.view.proofs.Plans.{table_of, types_count, builtin_is, type_is, term_is}
 use Rattle.variants.specs.Index.{variant_numbers}
 use Rattle.variants.proofs.Variants.{numbers_count, number_at}
 use Rattle.codegen.specs.Piece.{fix, sym_text, pos_text, type_text}
 use Rattle.codegen.specs.ReturnKind.{ReturnKind}
-use Rattle.codegen.specs.ReturnKind as kind
+use Rattle.codegen.specs.ReturnKind as ret
 use Rattle.codegen.specs.Sema.{is_ref_type, int_type, func_name_of, full_name_of, is_external, extractor_sig, constructor_sig}
-use Rattle.sema.specs.Holds.{VariantsIndexed}
+use Rattle.sema.specs.contracts.texts.Text.{the_type as text_type}
+use Rattle.sema.specs.declared.texts.Text.{Text}
+use Rattle.sema.specs.declared.texts.Text.TheVariants as text
+use Rattle.sema.specs.Texts.{text_in}
+use Rattle.sema.specs.Holds.{VariantsIndexed, SameVariants}
 
 -- FIELDS
 
 -- a named field has two words
-pub field_words : (ws : List ℕ) (i : ℕ) → i < length ws / 2 → get_or (fields_in ws) i (record { name = 0; ty = 0 }) ≡ record { name = nth ws (2 * i); ty = nth ws (2 * i + 1) }
+field_words : (ws : List ℕ) (i : ℕ) → i < length ws / 2 → get_or (fields_in ws) i (record { name = 0; ty = 0 }) ≡ record { name = nth ws (2 * i); ty = nth ws (2 * i + 1) }
 unfolding fields_in
 field_words [] i h = absurd (omega arith)
 field_words (n ∷ []) i h = absurd (omega arith)
@@ -40,21 +51,27 @@ field_words (n ∷ t ∷ ws) (suc i) h =
     let b : suc (suc (2 * i)) + 1 ≡ suc (suc (2 * i + 1)) = omega arith in
     rw (a, b) (field_words ws i (omega arith))
 
-pub field_past : (ws : List ℕ) (i : ℕ) → length ws / 2 ≤ i → record { name = 0; ty = 0 } ≡ get_or (fields_in ws) i (record { name = 0; ty = 0 })
-field_past ws i h = sym (get_or-eq_default (fields_in ws) (record { name = 0; ty = 0 }) (rw (fields_length ws) h))
+abbrev field_of : List ℕ → ℕ → Field
+field_of ws i = get_or (fields_in ws) i (record { name = 0; ty = 0 })
+
+pub field_there : (ws : List ℕ) (i n t : ℕ) → i < length ws / 2 → n ≡ nth ws (2 * i) → t ≡ nth ws (2 * i + 1) → (n ≡ (field_of ws i).name) × (t ≡ (field_of ws i).ty)
+field_there ws i n t h p q = rw (field_words ws i h) (p, q)
+
+pub field_past : (ws : List ℕ) (i : ℕ) → length ws / 2 ≤ i → (0 ≡ (field_of ws i).name) × (0 ≡ (field_of ws i).ty)
+field_past ws i h = rw (get_or-eq_default (fields_in ws) (record { name = 0; ty = 0 }) {n = i} (rw (fields_length ws) h)) (refl, refl)
 
 -- SIGNATURES
 
-pub told_constructor : (m : Term) (f : FunctionKind) (k : ReturnKind) → f ≡ m.ctor → k ≡ cond m.multi kind.Iterator (cond m.partial kind.Option kind.Plain)
+pub told_constructor : (m : Term) (f : FunctionKind) (k : ReturnKind) → f ≡ m.ctor → k ≡ cond m.multi ret.Iterator (cond m.partial ret.Option ret.Plain)
     → record { func_name = func_name_of f (fix "constructor_" refl) m; full_name = full_name_of f (fix "constructor_" refl) m; param_tys = m.arg_tys; ret_tys = m.ret_ty ∷ []; ret_kind = k } ≡ constructor_sig m
 unfolding constructor_sig
 told_constructor m f k p q = rw (p, q) refl
 
-either : (b : Bool) → cond (not b) kind.Option kind.Plain ≡ cond b kind.Plain kind.Option
+either : (b : Bool) → cond (not b) ret.Option ret.Plain ≡ cond b ret.Plain ret.Option
 either true = refl
 either false = refl
 
-pub told_extractor : (m : Term) (f : FunctionKind) (k : ReturnKind) → f ≡ m.xtor → k ≡ cond m.multi kind.Iterator (cond (not (m.infallible && is_external f)) kind.Option kind.Plain)
+pub told_extractor : (m : Term) (f : FunctionKind) (k : ReturnKind) → f ≡ m.xtor → k ≡ cond m.multi ret.Iterator (cond (not (m.infallible && is_external f)) ret.Option ret.Plain)
     → record { func_name = func_name_of f (fix "extractor_" refl) m; full_name = full_name_of f (fix "extractor_" refl) m; param_tys = m.ret_ty ∷ []; ret_tys = m.arg_tys; ret_kind = k } ≡ extractor_sig m
 unfolding extractor_sig
 told_extractor m f k p q = rw (q, either (m.infallible && is_external f), p) refl
@@ -80,49 +97,53 @@ named_by env ws = by_kind (eqb (nth ws 0) 0) (eqb (nth ws 0) 1) where
   by_kind false false = refl
 
 -- it is a reference unless its kind is the first
-pub row_ref : (ws : List ℕ) (k : ℕ) → k ≡ nth ws 0 → not (eqb k 0) ≡ is_ref_type (type_of ws)
+pub row_ref : (ws : List ℕ) (k : TypeKind) → k ≡ type_kind (nth ws 0) → not (sameb the_type k kind.Prim) ≡ is_ref_type (type_of ws)
 unfolding type_of is_ref_type
-row_ref ws k q = rw q (by_kind (eqb (nth ws 0) 0) (eqb (nth ws 0) 1)) where
-  by_kind : (a b : Bool) → not a ≡ is_ref_type (cond a (Primitive (nth ws 1)) (cond b (Enum (declared_of ws)) (Struct (declared_of ws) (shape_of (nth ws 0 - 2) (drop 5 ws)))))
-  by_kind true b = refl
-  by_kind false true = refl
-  by_kind false false = refl
+row_ref ws k q = rw q (by_kind (eqb (nth ws 0) 0) (eqb (nth ws 0) 1) (eqb (nth ws 0) 2) (eqb (nth ws 0) 3)) where
+  by_kind : (a b c d : Bool)
+      → not (sameb the_type (cond a kind.Prim (cond b kind.Enum (cond c kind.Unit (cond d kind.Named kind.Tuple)))) kind.Prim)
+      ≡ is_ref_type (cond a (Primitive (nth ws 1)) (cond b (Enum (declared_of ws)) (Struct (declared_of ws) (shape_of (nth ws 0 - 2) (drop 5 ws)))))
+  by_kind true b c d = refl
+  by_kind false true c d = refl
+  by_kind false false true d = refl
+  by_kind false false false true = refl
+  by_kind false false false false = refl
 
 module _ (p : Plan) where
   -- TEXTS
 
-  pub file_is : (n : ℕ) → text_of p.bytes.now (get_or (rows_of p 1) n []) ≡ get_or (env_of p).files n []
+  file_is : (n : ℕ) → text_of p.bytes.now (get_or (rows_of p 1) n []) ≡ get_or (env_of p).files n []
   unfolding environment_in environment_of text_of
   file_is n = sym (ap (λ (l : List (List ℕ)). get_or (map (text_of p.bytes.now) l) n []) (table_of p.words.now p.rows.now p.tables.now 1) ∙ get_or-map (text_of p.bytes.now) (rows_of p 1) n [])
 
-  pub sym_is : (n : ℕ) → text_of p.bytes.now (get_or (rows_of p 2) n []) ≡ sym_text (env_of p) n
+  sym_is : (n : ℕ) → text_of p.bytes.now (get_or (rows_of p 2) n []) ≡ sym_text (env_of p) n
   unfolding environment_in environment_of text_of
   sym_is n = sym (ap (λ (l : List (List ℕ)). get_or (map (text_of p.bytes.now) l) n []) (table_of p.words.now p.rows.now p.tables.now 2) ∙ get_or-map (text_of p.bytes.now) (rows_of p 2) n [])
 
-  pub pos_is : (n : ℕ) → text_of p.bytes.now (get_or (rows_of p 3) n []) ≡ pos_text (env_of p) n
+  pos_is : (n : ℕ) → text_of p.bytes.now (get_or (rows_of p 3) n []) ≡ pos_text (env_of p) n
   unfolding environment_in environment_of text_of
   pos_is n = sym (ap (λ (l : List (List ℕ)). get_or (map (text_of p.bytes.now) l) n []) (table_of p.words.now p.rows.now p.tables.now 3) ∙ get_or-map (text_of p.bytes.now) (rows_of p 3) n [])
+
+  -- by the number of the table in which it stands
+  pub text_is : (of : Text) (n r : ℕ) → words_of p r ≡ get_or (rows_of p (tag_of text_type of + 1)) n [] → text_of p.bytes.now (words_of p r) ≡ text_in (env_of p) of n
+  text_is text.File n r q = ap (text_of p.bytes.now) q ∙ file_is n
+  text_is text.Sym n r q = ap (text_of p.bytes.now) q ∙ sym_is n
+  text_is text.Pos n r q = ap (text_of p.bytes.now) q ∙ pos_is n
 
   -- TYPES
 
   abbrev type_words : ℕ → List ℕ
   type_words n = get_or (rows_of p 4) (n - 13) []
 
-  -- a type that has no row, as it is a builtin one or past the last
-  pub type_below : (n : ℕ) → n < 13 → Builtin (get_or all n builtin.Bool) ≡ type_at (env_of p) n
+  -- a type that has no row, as it is a builtin one or past the last, and one that has
+  type_below : (n : ℕ) → n < 13 → Builtin (get_or all n builtin.Bool) ≡ type_at (env_of p) n
   type_below n g = sym (builtin_is p.words.now p.rows.now p.tables.now p.bytes.now n g)
 
   type_past : (n : ℕ) → 13 ≤ n → length (rows_of p 4) ≤ n - 13 → Builtin builtin.Bool ≡ type_at (env_of p) n
   type_past n g k = sym (get_or-eq_default (env_of p).types (Builtin builtin.Bool) (omega (arith, types_count p.words.now p.rows.now p.tables.now p.bytes.now)))
 
-  pub type_above : (n : ℕ) → 13 ≤ n → length (rows_of p 4) ≤ n - 13 → Builtin (get_or all n builtin.Bool) ≡ type_at (env_of p) n
-  type_above n g k = ap Builtin (get_or-eq_default all builtin.Bool {n = n} g) ∙ type_past n g k
-
   type_row : (n : ℕ) → 13 ≤ n → n - 13 < length (rows_of p 4) → type_of (type_words n) ≡ type_at (env_of p) n
   type_row n g k = sym (type_is p.words.now p.rows.now p.tables.now p.bytes.now n g k)
-
-  pub type_in_row : (n i r : ℕ) → 13 ≤ n → i ≡ n - 13 → words_of p r ≡ get_or (rows_of p 4) i [] → i < length (rows_of p 4) → type_of (words_of p r) ≡ type_at (env_of p) n
-  type_in_row n i r g e q k = ap type_of (rw e at q) ∙ type_row n g (rw e at k)
 
   -- what is said of a type that is no builtin one goes by its row: that of no words stands for a type that doesn't exist
   by_type : {A : Type 0} (f : TypeData → A) (n : ℕ) → 13 ≤ n → f (type_of []) ≡ f (Builtin builtin.Bool) → f (type_of (type_words n)) ≡ f (type_at (env_of p) n)
@@ -133,7 +154,7 @@ module _ (p : Plan) where
         let l = ltb-false (n - 13) (length (rows_of p 4)) k in
         ap (λ (ws : List ℕ). f (type_of ws)) (get_or-eq_default (rows_of p 4) [] l) ∙ q ∙ ap f (type_past n g l)
 
-  pub int_is : (n : ℕ) → builtin_int (get_or all n builtin.Bool) ≡ int_type (type_at (env_of p) n)
+  int_is : (n : ℕ) → builtin_int (get_or all n builtin.Bool) ≡ int_type (type_at (env_of p) n)
   unfolding int_type
   int_is n = by_test (ltb n 13) refl where
     by_test : (b : Bool) → ltb n 13 ≡ b → builtin_int (get_or all n builtin.Bool) ≡ int_type (type_at (env_of p) n)
@@ -141,6 +162,9 @@ module _ (p : Plan) where
     by_test false k =
         let l : 13 ≤ n = ltb-false n 13 k in
         ap builtin_int (get_or-eq_default all builtin.Bool {n = n} l) ∙ sym (no_int (type_words n)) ∙ by_type int_type n l (no_int [])
+
+  pub int_read : (t : BuiltinType) (n : ℕ) → t ≡ get_or all n builtin.Bool → builtin_int t ≡ int_type (type_at (env_of p) n)
+  int_read t n h = ap builtin_int h ∙ int_is n
 
   -- TERMS
 
@@ -168,3 +192,12 @@ module _ {p : Plan} (h : VariantsIndexed p) where
         let m : k < length (variant_numbers p.words.now p.rows.now p.tables.now n) = omega (arith, g, variants_counted n l, ap length (h.indexed.numbers n l)) in
         ap (λ (l : List ℕ). variant_of (words_of p (nth l k))) (h.indexed.numbers n l) ∙ number_at p.bytes.now p.words.now p.rows.now p.tables.now n k m
     by_test false t = absurd (omega (arith, variants_none n (ltb-false n 256 t)))
+
+-- the same of another plan whose rows and index are these
+pub variant_same : {p p' : Plan} → SameVariants p p' → VariantsIndexed p' → (n k : ℕ) → k < length (variants_of n (env_of p').variants) → variant_of (words_of p (nth (variants_in p n) k)) ≡ variant_at (env_of p') n k
+variant_same {p} {p'} s h n k g = same ∙ variant_row h n k g where
+  same : variant_of (words_of p (nth (variants_in p n) k)) ≡ variant_of (words_of p' (nth (variants_in p' n) k))
+  same = rw (s.words, s.rows, s.index) refl
+
+pub same_variants : {p : Plan} → SameVariants p p
+same_variants = record { words = refl; rows = refl; index = refl }

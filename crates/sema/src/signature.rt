@@ -1,4 +1,5 @@
-// Signatures: `ExternalSig` of sema.rs 564, by value; its lists of types are read through `param_ty` and `ret_ty`.
+// Signatures: `ExternalSig` of sema.rs 564, by value; its lists of types are read through `param_ty` and `ret_ty`, and are no slices: the one
+// type of a term's value reads as 0 where its row has too few words.
 ghost use Rattle.std.specs.Prelude.{◌≡◌, cond, ◌&&◌, [], ◌∷◌, ℕ, length, get_or};
 ghost use Rattle.plan.specs.Lookup.{term_at};
 ghost use Rattle.codegen.specs.Piece.{sym};
@@ -16,6 +17,7 @@ use text::sink::Sink;
 use view::buffers::Plan;
 use view::environment::FunctionKind;
 use view::tables::TERMS;
+use view::word_in;
 
 #[derive(Clone, Copy, PartialEq, Eq)]
 pub enum ReturnKind {
@@ -102,7 +104,7 @@ impl TermId {
         ensures { result ≡ length (tys_of of_args (term_at (env_of plan.now) self.0)) }
     {
         if of_args {
-            plan.list_len(self.row(plan), 8)
+            plan.list(self.row(plan), 8).len()
         } else {
             1
         }
@@ -114,7 +116,7 @@ impl TermId {
     {
         let row = self.row(plan);
         TypeId(if of_args {
-            plan.list_word(row, 8, i)
+            word_in(plan.list(row, 8), i) as usize
         } else if i == 0 {
             plan.word(row, 2)
         } else {

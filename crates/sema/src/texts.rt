@@ -19,6 +19,7 @@ pub enum Text {
 
 impl Text {
     // The bytes of the text n, which the plan has.
+    #[tactic(auto, using(crate::proofs::Laws::text_is))]
     fn bytes<'a>(self, plan: &Plan<'a>, n: usize) -> &'a [u8]
         ensures { result.now ≡ text_in (env_of plan.now) self n }
     {

@@ -1,31 +1,30 @@
 // Types by their number: `TypeEnv` of sema.rs, and `ty` of codegen.rs 610.
 ghost use Rattle.std.specs.Prelude.{◌≡◌, List, ℕ, length};
-ghost use Rattle.text.specs.Codes.{codes};
 ghost use Rattle.text.specs.Writes.{Writes};
-ghost use Rattle.literal.specs.BuiltinType.{builtin_int, name};
+ghost use Rattle.literal.specs.BuiltinType.{builtin_int};
 ghost use Rattle.plan.specs.Plan.{Environment};
 ghost use Rattle.plan.specs.Lookup.{type_at, variants_of, variant_at, fields_of};
 ghost use Rattle.codegen.specs.Piece.{type_text};
 ghost use Rattle.codegen.specs.Sema.{is_ref, int_type};
 ghost use Rattle.view.specs.Buffers.{env_of};
 ghost use Rattle.view.specs.declared.buffers.Plan.{Plan};
-ghost use Rattle.sema.specs.Holds.{VariantsIndexed};
+ghost use Rattle.sema.specs.Holds.{VariantsIndexed, SameVariants};
 ghost use Rattle.sema.specs.Fields.{fields_read};
-ghost use Rattle.sema.specs.Types.{type_read, type_by_row};
+ghost use Rattle.sema.specs.Types.{type_read, param_text};
 
 use super::fields::{Fields, Variant};
 use super::texts::{Text, put_text};
 use literal::builtin_type::BuiltinType;
+use rows::kinds::{Shape, TypeKind};
 use text::sink::Sink;
 use view::buffers::Plan;
-use view::environment::{Shape, TypeData};
-use view::tables::TYPES;
+use view::environment::TypeData;
 
-// A type, and its row, whose list has a struct's fields.
+// A type, and the list of its row, which has a struct's fields.
 #[derive(Clone, Copy)]
-pub struct TypeRow {
+pub struct TypeRow<'a> {
     pub ty: TypeData,
-    pub row: usize,
+    pub list: &'a [u32],
 }
 
 // `TypeId` of sema.rs: a type by its number.
@@ -33,31 +32,20 @@ pub struct TypeRow {
 pub struct TypeId(pub usize);
 
 impl TypeId {
-    // The type's row: a builtin type has none, nor has one that doesn't exist, which is taken for `bool`.
-    #[tactic(auto, using(crate::proofs::Laws::type_below, crate::proofs::Laws::type_above))]
-    fn row(self, plan: &Plan<'_>) -> Option<usize>
-        ensures { type_by_row plan.now self.0 result ≡ type_at (env_of plan.now) self.0 }
+    // The type: a builtin one has no row, nor has one that doesn't exist, which is taken for `bool`.
+    pub fn data<'a>(self, plan: &Plan<'a>) -> TypeRow<'a>
+        ensures { type_read result ≡ type_at (env_of plan.now) self.0 }
     {
-        let i = self.0.checked_sub(BuiltinType::COUNT)?;
-        if i < plan.row_count(TYPES) {
-            Some(plan.row_at(TYPES, i))
-        } else {
-            None
-        }
-    }
-
-    // The type, with its row.
-    pub fn data(self, plan: &Plan<'_>) -> TypeRow
-        ensures { type_read plan.now result ≡ type_at (env_of plan.now) self.0 }
-    {
-        let Some(row) = self.row(plan) else {
-            return TypeRow {
+        match plan.type_row(self.0) {
+            None => TypeRow {
                 ty: TypeData::Builtin(BuiltinType::from_index(self.0)),
-                row: 0,
-            };
-        };
-        let ty = plan.type_at(row);
-        TypeRow { ty, row }
+                list: &[],
+            },
+            Some(row) => TypeRow {
+                ty: plan.type_at(row),
+                list: plan.list(row, 5),
+            },
+        }
     }
 
     // `ty` of codegen.rs 610: whether a value of the type is passed by reference.
@@ -65,13 +53,14 @@ impl TypeId {
     pub fn is_ref(self, plan: &Plan<'_>) -> bool
         ensures { result ≡ is_ref (env_of plan.now) self.0 }
     {
-        match self.row(plan) {
+        match plan.type_row(self.0) {
             None => false,
-            Some(row) => plan.word(row, 0) != 0,
+            Some(row) => TypeKind::from(plan.cell(row, 0)) != TypeKind::Prim,
         }
     }
 
     // The builtin type that a literal of the type is written as: `bool` stands for each type that is no integer type.
+    #[tactic(auto, using(crate::proofs::Laws::int_read))]
     pub fn int_type(self) -> BuiltinType
         ensures { (p : Plan) → builtin_int result ≡ int_type (type_at (env_of p) self.0) }
     {
@@ -83,15 +72,26 @@ impl TypeId {
     pub fn put_name(self, w: &mut Sink<'_>, plan: &Plan<'_>)
         ensures { let env = env_of plan.now in Writes (type_text env (type_at env self.0)) w.old w.new }
     {
-        match self.row(plan) {
+        match plan.type_row(self.0) {
             None => BuiltinType::from_index(self.0).put_name(w),
             Some(row) => put_text(w, plan, Text::Sym, plan.word(row, 1)),
         }
     }
 
+    // The type of a parameter: its name, after `&` where it is passed by reference.
+    #[tactic(auto, using(text::specs::Writes::writes_then))]
+    pub fn put_param(self, w: &mut Sink<'_>, plan: &Plan<'_>)
+        ensures { Writes (param_text (env_of plan.now) self.0) w.old w.new }
+    {
+        if self.is_ref(plan) {
+            w.put_bytes(b"&");
+        }
+        self.put_name(w, plan);
+    }
+
     // The fields of a struct: none if it is another type.
-    pub fn fields(self, plan: &Plan<'_>) -> Fields
-        ensures { fields_read plan.now result ≡ fields_of (type_at (env_of plan.now) self.0) }
+    pub fn fields<'a>(self, plan: &Plan<'a>) -> Fields<'a>
+        ensures { fields_read result ≡ fields_of (type_at (env_of plan.now) self.0) }
     {
         let data = self.data(plan);
         let shape = match data.ty {
@@ -100,15 +100,15 @@ impl TypeId {
         };
         Fields {
             shape,
-            row: data.row,
-            header: 5,
+            list: data.list,
         }
     }
 
     // How many variants an enum has: the index has places for 256 types, and no other type has variants.
-    #[tactic(auto, using(crate::proofs::Laws::variants_counted))]
+    #[tactic(auto, using(crate::proofs::Laws::variants_counted, crate::proofs::Laws::variants_none))]
     pub fn variant_count(self, plan: &Plan<'_>) -> usize
-        ensures { VariantsIndexed plan.now → result ≡ length (variants_of self.0 (env_of plan.now).variants) }
+        ensures own { VariantsIndexed plan.now → result ≡ length (variants_of self.0 (env_of plan.now).variants) }
+        ensures any { (p : Plan) → p.index.now ≡ plan.now.index.now → VariantsIndexed p → result ≡ length (variants_of self.0 (env_of p).variants) }
     {
         if self.0 < 256 {
             plan.variant_count(self.0)
@@ -118,16 +118,16 @@ impl TypeId {
     }
 
     // The variant k of an enum.
-    pub fn variant(self, plan: &Plan<'_>, k: usize) -> Variant
-        ensures { VariantsIndexed plan.now → let v = variant_at (env_of plan.now) self.0 k in (result.name ≡ v.name) × (fields_read plan.now result.fields ≡ v.fields) }
+    pub fn variant<'a>(self, plan: &Plan<'a>, k: usize) -> Variant<'a>
+        ensures own { VariantsIndexed plan.now → let v = variant_at (env_of plan.now) self.0 k in (result.name ≡ v.name) × (fields_read result.fields ≡ v.fields) }
+        ensures any { (p : Plan) → SameVariants plan.now p → VariantsIndexed p → let v = variant_at (env_of p) self.0 k in (result.name ≡ v.name) × (fields_read result.fields ≡ v.fields) }
     {
         if self.variant_count(plan) <= k {
             return Variant {
                 name: 0,
                 fields: Fields {
                     shape: Shape::Unit,
-                    row: 0,
-                    header: 3,
+                    list: &[],
                 },
             };
         }
@@ -137,8 +137,7 @@ impl TypeId {
             name: variant.name,
             fields: Fields {
                 shape: variant.shape,
-                row,
-                header: 3,
+                list: plan.list(row, 3),
             },
         }
     }

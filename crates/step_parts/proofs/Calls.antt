@@ -1,5 +1,5 @@
 -- The buffer of a binding goes by what it calls. Assumes nothing.
-use Rattle.std.specs.Prelude.{◌≡◌, refl, ℕ, ◌+◌, List, [], get_or, Option, Some, None}
+use Rattle.std.specs.Prelude.{◌≡◌, refl, ℕ, List, [], get_or, Option, Some, None}
 use Rattle.std.proofs.Common.{ap, ◌∙◌}
 use Rattle.std.proofs.Math.Option as math
 use Rattle.std.proofs.Math.Option.{none}
@@ -9,7 +9,7 @@ use Rattle.plan.specs.Lookup.{binding_at}
 use Rattle.rows.specs.View.{binding_of}
 use Rattle.codegen.specs.Piece.{Piece}
 use Rattle.codegen.specs.Block.{buffer, iter_return}
-use Rattle.view.specs.Buffers.{words_of, rows_of, env_of, generated_in}
+use Rattle.view.specs.Buffers.{words_of, rows_of, env_of, bindings_in}
 use Rattle.view.specs.Told.{binding_told}
 use Rattle.view.specs.declared.binding.Binding as declared
 use Rattle.view.specs.declared.buffers.Plan.{Plan}
@@ -40,6 +40,6 @@ iter_return_is env (MatchVariant f) = refl
 iter_return_is env (ExtractStruct f) = refl
 
 -- that of binding b, which is k by its row r, and calls s
-pub iter_return_of : (p : Plan) (t b r : ℕ) (k : declared.Binding) (s : Option ExternalSig) → words_of p r ≡ get_or (rows_of p (t + 1)) b [] → binding_told k ≡ (binding_of (words_of p r)).binding → called_told (env_of p) s ≡ called (env_of p) (binding_told k)
-    → buffer_of (called_told (env_of p) s) ≡ iter_return (env_of p) (binding_at (generated_in p t).bindings b).binding
+pub iter_return_of : (p : Plan) (t b r : ℕ) (k : declared.Binding) (s : Option ExternalSig) → words_of p r ≡ get_or (rows_of p t) b [] → binding_told k ≡ (binding_of (words_of p r)).binding → called_told (env_of p) s ≡ called (env_of p) (binding_told k)
+    → buffer_of (called_told (env_of p) s) ≡ iter_return (env_of p) (binding_at (bindings_in p t) b).binding
 iter_return_of p t b r k s h g c = ap buffer_of c ∙ iter_return_is (env_of p) (binding_told k) ∙ ap (iter_return (env_of p)) (g ∙ ap (λ (x : BindingRow). x.binding) (binding_is p t b r h))

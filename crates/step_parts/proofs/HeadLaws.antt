@@ -1,27 +1,16 @@
--- The lines of lets, arms and returns, from what their calls put. Assumes nothing.
-use Rattle.std.specs.Prelude.{◌≡◌, refl, Bool, true, false, List, [], ◌∷◌, ℕ}
-use Rattle.std.proofs.Math.Option.{Option, some, none}
-use Rattle.text.specs.Codes.{codes}
-use Rattle.text.specs.Writes.{Writes}
-use Rattle.text.specs.declared.sink.Sink.{Sink}
+-- No odd literal stands at the start of a let. Assumes nothing.
+use Rattle.std.specs.Prelude.{◌≡◌, refl, Bool, true, false, List, ℕ}
+use Rattle.std.proofs.Math.Option.{some, none}
 use Rattle.plan.specs.Plan.{Environment, FunctionKind, absent, internal, external, Term}
 use Rattle.plan.specs.Binding.{Binding, ConstBool, ConstInt, ConstPrim, Argument, Extractor, Constructor, Iterator, MakeVariant, MakeStruct, MakeSome, MatchSome, MatchTuple, MatchVariant, ExtractStruct}
-use Rattle.plan.specs.Constraint.{Constraint}
-use Rattle.plan.specs.Lookup.{term_at, binding_at}
-use Rattle.codegen.specs.Piece.{Piece, fix, brace, odd_piece, odd_pieces}
-use Rattle.codegen.specs.Writer.{Marks, say, ask, ◌▸◌}
+use Rattle.plan.specs.Lookup.{term_at}
+use Rattle.codegen.specs.Piece.{Piece, fix, odd_piece, odd_pieces}
 use Rattle.codegen.specs.ReturnKind.{ReturnKind, by_return_kind}
 use Rattle.codegen.specs.ReturnKind as kind
 use Rattle.codegen.specs.Sema.{func_name_of, is_external, extractor_sig, constructor_sig}
-use Rattle.codegen.specs.Expr.{emit_expr, cloned}
-use Rattle.codegen.specs.Pattern.{emit_constraint}
-use Rattle.codegen.specs.Block.{Body, buffer, iter_return, let_head, let_line, return_line}
+use Rattle.codegen.specs.Block.{buffer, iter_return, let_head}
 use Rattle.emits.specs.Emits.{odd_append}
-use Rattle.emits.specs.Sinks.{Shows, shows_none, shows_fix, shows_brace}
-use Rattle.emits.specs.Runs.{Emits, ◌⟫◌, emits_say}
 use Rattle.step_parts.specs.Buffer.{buffer_type}
-
--- NO ODD LITERAL stands at the start of a let
 
 odd_name : (f : FunctionKind) (p : Piece) (m : Term) → odd_piece p ≡ 0 → odd_pieces (func_name_of f p m) ≡ 0
 unfolding func_name_of odd_pieces odd_piece
@@ -60,35 +49,3 @@ odd_let env b MatchSome = odd_none b
 odd_let env b (MatchTuple f) = odd_none b
 odd_let env b (MatchVariant f) = odd_none b
 odd_let env b (ExtractStruct f) = odd_none b
-
--- the first and the last words of a return
-odd_start : (k : ReturnKind) → odd_pieces (by_return_kind k (fix "returns.extend(Some(" refl) (fix "return " refl) (fix "return " refl) ∷ []) ≡ 0
-unfolding by_return_kind odd_pieces odd_piece
-odd_start kind.Iterator = refl
-odd_start kind.Option = refl
-odd_start kind.Plain = refl
-
-odd_last : (k : ReturnKind) → odd_pieces (by_return_kind k (fix "));" refl) (fix ";" refl) (fix ";" refl) ∷ []) ≡ 0
-unfolding by_return_kind odd_pieces odd_piece
-odd_last kind.Iterator = refl
-odd_last kind.Option = refl
-odd_last kind.Plain = refl
-
--- LINES
-
-module _ (c : Body) {d : ℕ} (m : Marks) {w : Sink} {r : Marks} {w₁ w₂ : Sink} {r₂ : Marks} {w₃ : Sink} where
-  pub emits_let_line : (b : ℕ) → Shows c.env d (let_head b (iter_return c.env (binding_at c.bindings b).binding)) w w₁ → Emits c.env d (emit_expr c.env c.bindings m b) w₁ r w₂ r₂ → Writes (codes ";") w₂ w₃ → Emits c.env d (let_line c m b) w r w₃ r₂
-  unfolding let_line odd_pieces odd_piece
-  emits_let_line b p x s = emits_say (odd_let c.env b (binding_at c.bindings b).binding) p ⟫ x ⟫ emits_say refl (shows_fix s shows_none)
-
-  -- a return, whose first and last words go by the kind
-  pub emits_return : {w₄ : Sink} (x : ℕ) → Shows c.env d (by_return_kind c.ret_kind (fix "returns.extend(Some(" refl) (fix "return " refl) (fix "return " refl) ∷ []) w w₁ → Emits c.env d (emit_expr c.env c.bindings m x) w₁ r w₂ r₂
-      → Emits c.env d (ask x cloned) w₂ r₂ w₃ r₂ → Shows c.env d (by_return_kind c.ret_kind (fix "));" refl) (fix ";" refl) (fix ";" refl) ∷ []) w₃ w₄ → Emits c.env d (return_line c m x) w r w₄ r₂
-  unfolding return_line
-  emits_return x p e s t = emits_say (odd_start c.ret_kind) p ⟫ e ⟫ s ⟫ emits_say (odd_last c.ret_kind) t
-
--- an arm of a match of several
-pub emits_arm_head : {env : Environment} {d : ℕ} {w : Sink} {r : Marks} {w₁ : Sink} {r₁ : Marks} {w₂ w₃ : Sink} (x : ℕ) (k : Constraint) (ps : List (Option ℕ)) → Emits env d (emit_constraint env x k ps) w r w₁ r₁ → Writes (codes " =>") w₁ w₂ → Writes (codes " {") w₂ w₃
-    → Emits env d (emit_constraint env x k ps ▸ say (fix " =>" refl ∷ brace ∷ [])) w r w₃ r₁
-unfolding odd_pieces odd_piece
-emits_arm_head x k ps e s u = e ⟫ emits_say refl (shows_fix s (shows_brace u shows_none))

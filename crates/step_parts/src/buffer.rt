@@ -15,7 +15,6 @@ ghost use Rattle.step_parts.specs.Buffer.{buffer_type};
 use body::Body;
 use consts::pieces::{put_break, put_var};
 use expr::call::called;
-use expr_parts::binding_row;
 use sema::signature::{ExternalSig, ReturnKind};
 use text::sink::Sink;
 use view::buffers::Plan;
@@ -67,7 +66,7 @@ fn let_call(w: &mut Sink<'_>, plan: &Plan<'_>, depth: usize, sig: ExternalSig, b
 pub fn let_head(w: &mut Sink<'_>, body: &Body<'_>, depth: usize, b: usize)
     ensures { let c = body_told body.now in Shows c.env depth (let_head b (iter_return c.env (binding_at c.bindings b).binding)) w.old w.new }
 {
-    let row = binding_row(body.plan, body.t, b);
+    let row = body.plan.row_at(body.bindings, b);
     match called(body.plan, body.plan.binding_at(row)) {
         None => let_value(w, b),
         Some(sig) => let_call(w, body.plan, depth, sig, b),

@@ -1,6 +1,7 @@
 -- What a step and an arm give, kind by kind. Assumes nothing.
-use Rattle.std.specs.Prelude.{◌≡◌, refl, ℕ, ◌+◌, ◌*◌, ◌≤◌, ◌<◌, true, false, List, [], ◌∷◌, drop, get_or, ltb}
-use Rattle.std.proofs.Common.{sym, ap, ◌∙◌, ne_eqb}
+use Rattle.std.specs.Prelude.{◌≡◌, refl, ℕ, ◌+◌, ◌*◌, ◌<◌, Bool, true, false, cond, List, [], ◌∷◌, get_or, eqb, leb, ltb}
+use Rattle.std.proofs.Common.{sym, ap, ◌∙◌, eqb-true, leb-true, leb-false, arith}
+use lib.Seq.{get_or-drop}
 use Rattle.std.proofs.Math.Option.{Option, some, none}
 use Rattle.text.specs.Sink.{spaces}
 use Rattle.text.specs.Writes.{Writes}
@@ -8,23 +9,26 @@ use Rattle.text.specs.declared.sink.Sink.{Sink}
 use Rattle.plan.specs.Constraint.{Constraint}
 use Rattle.plan.specs.Binding.{BindingRow}
 use Rattle.plan.specs.Lookup.{binding_at}
-use Rattle.plan.specs.Row.{Row, step, arm, ControlFlow, Match}
+use Rattle.plan.specs.Row.{Row, step, arm, Match}
 use Rattle.codegen.specs.Writer.{Marks, Writer, said}
 use Rattle.codegen.specs.Pattern.{bind_all}
 use Rattle.codegen.specs.Block as block
 use Rattle.codegen.specs.Block.{Purpose, one_arm, arms_of, Own, arm_count, one_arm_head, match_head, opening, nothing_written, loop_head, matching, emit_check}
 use Rattle.codegen.specs.Piece.{odd_piece, odd_pieces}
-use Rattle.rows.specs.View.{nth, patterns_in, block_of, binding_of}
+use Rattle.rows.specs.View.{nth, binding_of}
 use Rattle.view.specs.Buffers.{rows_of}
 use Rattle.view.specs.Told.{constraint_of}
 use Rattle.emits.specs.Marks.{set_of}
 use Rattle.emits.specs.Runs.{Emits}
 use Rattle.expr_parts.proofs.Laws.{binding_is}
 use Rattle.context.specs.declared.body_context.BodyContext.{BodyContext}
-use Rattle.row_frames.specs.Rows.{rows_next, rows_none}
-use Rattle.view.specs.BlockRows.{step_is, arm_is}
+use Rattle.row_frames.specs.Arms.{arms_in}
+use Rattle.row_frames.specs.Rows.{rows_next}
+use Rattle.row_frames.specs.declared.Arms.TheVariants.{Absent, One, Several}
+use Rattle.row_frames.proofs.Laws.{arms_absent, arms_step}
+use Rattle.view.specs.BlockRows.{arm_is}
 use Rattle.body.specs.declared.Body.{Body}
-use Rattle.body.specs.Told.{env_in, bindings_in, row_in, rows_in, body_told, Fits}
+use Rattle.body.specs.Told.{env_in, bindings_of, row_in, pattern_in, rows_in, body_told, Fits}
 use Rattle.body.specs.Own.{WritesOwn}
 use Rattle.body.specs.Lines.{lines_none, lines_same, lines_words}
 
@@ -55,56 +59,74 @@ module _ {deep : Type 0} {b : Body} {w : Sink} {s : BodyContext} where
   unfolding opening
   own_opening l {v = v} x y z h n = record { lines = λ d f i fs t. lines_words {v = v} t.depth x (y d f) z; frame = λ r. refl; bound = λ r. h; nesting = n }
 
--- A MATCH, by the row after it
+-- A MATCH, by its arms
+
+none_one : Absent ≡ One → ⊥
+none_one h = let z : ◌≡◌ {A = ℕ} 0 1 = cc in omega arith
+
+none_several : Absent ≡ Several → ⊥
+none_several h = let z : ◌≡◌ {A = ℕ} 0 1 = cc in omega arith
+
+one_several : One ≡ Several → ⊥
+one_several h = let z : ◌≡◌ {A = ℕ} 0 1 = cc in omega arith
 
 module _ (c : block.Body) (m : Marks) (l q : ℕ) where
-  match_none : {rs : List Row} → rs ≡ [] → (x : Marks) → emit_check c x m l (Match q) rs ≡ nothing_written x m
-  unfolding emit_check matching
-  match_none e x = rw e
-
-  match_step : {rs : List Row} (v : ℕ) (f : ControlFlow) (bs : List ℕ) (more : List Row) → rs ≡ step v f bs ∷ more → (x : Marks) → emit_check c x m l (Match q) rs ≡ nothing_written x m
-  unfolding emit_check matching
-  match_step v f bs more e x = rw e
+  match_absent : (rs : List Row) → Absent ≡ arms_in l rs → (x : Marks) → emit_check c x m l (Match q) rs ≡ nothing_written x m
+  unfolding emit_check matching arms_in
+  match_absent [] e x = refl
+  match_absent (step v f bs ∷ rs) e x = refl
+  match_absent (arm v k ps ∷ rs) e x = by_test (eqb (arm_count l (arm v k ps ∷ rs)) 1) e where
+    by_test : (t : Bool) → Absent ≡ cond t One Several → emit_check c x m l (Match q) (arm v k ps ∷ rs) ≡ nothing_written x m
+    by_test true h = absurd (none_one h)
+    by_test false h = absurd (none_several h)
 
   module _ {rs more : List Row} {v : ℕ} {k : Constraint} {ps : List (Option ℕ)} (e : rs ≡ arm v k ps ∷ more) where
     match_arm : (n : ℕ) → arm_count l rs ≡ n → (x : Marks) → emit_check c x m l (Match q) rs ≡ matching c x m q n (arm v k ps ∷ more)
     unfolding emit_check
     match_arm n h x = rw (h, e)
 
-    match_one : arm_count l rs ≡ 1 → (x : Marks) → emit_check c x m l (Match q) rs ≡ opening one_arm m (bind_all ps m) (said (one_arm_head c (bind_all ps m) q k ps) x)
-    unfolding matching
-    match_one h x = match_arm 1 h x
+    arms_are : arms_in l rs ≡ cond (eqb (arm_count l rs) 1) One Several
+    unfolding arms_in
+    arms_are = rw e
 
-    match_several : (arm_count l rs ≡ 1 → ⊥) → (x : Marks) → emit_check c x m l (Match q) rs ≡ opening (arms_of q) m m (said (match_head c m q k) x)
+    match_one : One ≡ arms_in l rs → (x : Marks) → emit_check c x m l (Match q) rs ≡ opening one_arm m (bind_all ps m) (said (one_arm_head c (bind_all ps m) q k ps) x)
     unfolding matching
-    match_several h x = match_arm (arm_count l rs) refl x ∙ rw (ne_eqb (arm_count l rs) 1 h)
+    match_one h x = match_arm 1 (by_test (eqb (arm_count l rs) 1) refl (h ∙ arms_are)) x where
+      by_test : (t : Bool) → eqb (arm_count l rs) 1 ≡ t → One ≡ cond t One Several → arm_count l rs ≡ 1
+      by_test true g u = eqb-true (arm_count l rs) 1 g
+      by_test false g u = absurd (one_several u)
+
+    match_several : Several ≡ arms_in l rs → (x : Marks) → emit_check c x m l (Match q) rs ≡ opening (arms_of q) m m (said (match_head c m q k) x)
+    unfolding matching
+    match_several h x = match_arm (arm_count l rs) refl x ∙ by_test (eqb (arm_count l rs) 1) refl (h ∙ arms_are) where
+      by_test : (t : Bool) → eqb (arm_count l rs) 1 ≡ t → Several ≡ cond t One Several → matching c x m q (arm_count l rs) (arm v k ps ∷ more) ≡ opening (arms_of q) m m (said (match_head c m q k) x)
+      by_test true g u = absurd (one_several (sym u))
+      by_test false g u = rw g
 
 -- the same where the rows from row `first` up to row `last` stand after it
 module _ (b : Body) (m : Marks) (l first last q : ℕ) where
   abbrev of_match : Marks → Own
   of_match x = emit_check (body_told b) x m l (Match q) (rows_in b last first)
 
-  pub match_past : last ≤ first → (x : Marks) → of_match x ≡ nothing_written x m
-  match_past h = match_none (body_told b) m l q (rows_none b.plan.now.words.now b.plan.now.rows.now first last h)
+  pub match_of_none : Absent ≡ arms_in l (rows_in b last first) → (x : Marks) → of_match x ≡ nothing_written x m
+  match_of_none = match_absent (body_told b) m l q (rows_in b last first)
 
-  next : first < last → rows_in b last first ≡ block_of (row_in b first) ∷ rows_in b last (first + 1)
-  next h = rows_next b.plan.now.words.now b.plan.now.rows.now first last h
+  -- the first of them is an arm where there are any
+  first_arm : (Absent ≡ arms_in l (rows_in b last first) → ⊥) → rows_in b last first ≡ arm (nth (row_in b first) 0) (constraint_of (row_in b first)) (pattern_in b first) ∷ rows_in b last (first + 1)
+  first_arm h = by_place (leb last first) refl where
+    by_kind : first < last → (t : Bool) → ltb (nth (row_in b first) 1) 4 ≡ t → rows_in b last first ≡ arm (nth (row_in b first) 0) (constraint_of (row_in b first)) (pattern_in b first) ∷ rows_in b last (first + 1)
+    by_kind g true s = absurd (h (arms_step b.plan.now.words.now b.plan.now.rows.now l first last g s))
+    by_kind g false s = rows_next b.plan.now.words.now b.plan.now.rows.now first last g ∙ ap (λ (x : Row). x ∷ rows_in b last (first + 1)) (arm_is (row_in b first) s)
 
-  pub match_before_step : first < last → ltb (nth (row_in b first) 1) 4 ≡ true → (x : Marks) → of_match x ≡ nothing_written x m
-  match_before_step h g = match_step (body_told b) m l q _ _ _ _ (next h ∙ ap (λ (x : Row). x ∷ rows_in b last (first + 1)) (step_is (row_in b first) g))
+    by_place : (t : Bool) → leb last first ≡ t → rows_in b last first ≡ arm (nth (row_in b first) 0) (constraint_of (row_in b first)) (pattern_in b first) ∷ rows_in b last (first + 1)
+    by_place true s = absurd (h (arms_absent b.plan.now.words.now b.plan.now.rows.now l first last (leb-true last first s)))
+    by_place false s = by_kind (leb-false last first s) (ltb (nth (row_in b first) 1) 4) refl
 
-  module _ (h : first < last) (g : ltb (nth (row_in b first) 1) 4 ≡ false) {k : Constraint} (e : k ≡ constraint_of (row_in b first)) where
-    abbrev ps : List (Option ℕ)
-    ps = patterns_in (drop 7 (row_in b first))
+  pub match_of_one : One ≡ arms_in l (rows_in b last first) → (x : Marks) → of_match x ≡ opening one_arm m (bind_all (pattern_in b first) m) (said (one_arm_head (body_told b) (bind_all (pattern_in b first) m) q (constraint_of (row_in b first)) (pattern_in b first)) x)
+  match_of_one h = match_one (body_told b) m l q (first_arm (λ e. none_one (e ∙ sym h))) h
 
-    first_arm : rows_in b last first ≡ arm (nth (row_in b first) 0) k ps ∷ rows_in b last (first + 1)
-    first_arm = next h ∙ rw (arm_is (row_in b first) g, e)
-
-    pub match_of_one : arm_count l (rows_in b last first) ≡ 1 → (x : Marks) → of_match x ≡ opening one_arm m (bind_all ps m) (said (one_arm_head (body_told b) (bind_all ps m) q k ps) x)
-    match_of_one = match_one (body_told b) m l q first_arm
-
-    pub match_of_several : (arm_count l (rows_in b last first) ≡ 1 → ⊥) → (x : Marks) → of_match x ≡ opening (arms_of q) m m (said (match_head (body_told b) m q k) x)
-    match_of_several = match_several (body_told b) m l q first_arm
+  pub match_of_several : Several ≡ arms_in l (rows_in b last first) → (x : Marks) → of_match x ≡ opening (arms_of q) m m (said (match_head (body_told b) m q (constraint_of (row_in b first))) x)
+  match_of_several h = match_several (body_told b) m l q (first_arm (λ e. none_several (e ∙ sym h))) h
 
 -- A LOOP
 
@@ -113,6 +135,6 @@ unfolding loop_head odd_pieces odd_piece
 odd_loop r q = refl
 
 -- the iterator of result r, whose binding is in a row
-pub loop_source : (b : Body) (r row : ℕ) → row_in b row ≡ get_or (rows_of b.plan.now (b.t + 1)) r [] → nth (drop 6 (row_in b row)) 0 ≡ get_or (binding_at (bindings_in b) r).sources 0 0
+pub loop_source : (b : Body) (r row : ℕ) → row_in b row ≡ get_or (rows_of b.plan.now b.bindings) r [] → nth (row_in b row) 6 ≡ get_or (binding_at (bindings_of b) r).sources 0 0
 unfolding binding_of
-loop_source b r row h = ap (λ (x : BindingRow). get_or x.sources 0 0) (binding_is b.plan.now b.t r row h)
+loop_source b r row h = sym (get_or-drop 6 (row_in b row) 0 0) ∙ ap (λ (x : BindingRow). get_or x.sources 0 0) (binding_is b.plan.now b.bindings r row h)

@@ -1,4 +1,3 @@
 pub mod CheckLaws
 pub mod LetLaws
-pub mod OddLaws
 pub mod SmallLaws

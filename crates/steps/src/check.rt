@@ -2,22 +2,22 @@
 ghost use Rattle.std.specs.Prelude.{List, ℕ, ◌+◌, ◌<◌, ◌≡◌};
 ghost use Rattle.plan.specs.Row as row;
 ghost use Rattle.plan.specs.Row.{Row};
-ghost use Rattle.codegen.specs.Block.{emit_check};
 ghost use Rattle.rows.specs.View.{nth};
 ghost use Rattle.view.specs.Buffers.{words_of};
 ghost use Rattle.view.specs.Told.{control_flow_told, control_flow_of};
-ghost use Rattle.emits.specs.Marks.{set_of};
 ghost use Rattle.row_frames.specs.Rows.{rows_from};
 ghost use Rattle.row_frames.specs.Told.{opens_told};
-ghost use Rattle.body.specs.Told.{row_in, rows_in, body_told};
+ghost use Rattle.body.specs.Told.{row_in, rows_in};
 ghost use Rattle.body.specs.Own.{WritesOwn};
+ghost use Rattle.body.specs.Words.{HasDepth};
+ghost use Rattle.steps.specs.Rows.{check_at};
 ghost use Rattle.steps.specs.Small.{word_bound, SmallFlow};
 
 use super::matches::emit_match;
 use body::Body;
 use context::body_context::BodyContext;
 use emits::stablemapset::insert;
-use expr_parts::{SOURCES, binding_row};
+use expr_parts::SOURCES;
 use returns::emit_return;
 use row_frames::Purpose;
 use step_parts::heads::{equal_head, loop_head};
@@ -33,7 +33,7 @@ fn emit_equal(
     a: usize,
     b: usize,
 ) -> Option<Purpose>
-    ensures { (l : ℕ) (rs : List Row) → WritesOwn ((context.old.nesting.depth + a < 4611686018427387904) × (context.old.nesting.depth + b < 4611686018427387904)) body.now (λ q. emit_check (body_told body.now) q (set_of context.old.is_bound) l (row.Equal a b) rs) w.old context.old (opens_told result) w.new context.new }
+    ensures { (l : ℕ) (rs : List Row) → WritesOwn (HasDepth context.old a × HasDepth context.old b) body.now (check_at body.now context.old l (row.Equal a b) rs) w.old context.old (opens_told result) w.new context.new }
 {
     w.put_indent(context.nesting.depth);
     equal_head(w, body, context, a, b);
@@ -48,10 +48,10 @@ fn emit_loop(
     context: &mut BodyContext,
     r: usize,
 ) -> Option<Purpose>
-    ensures { (l : ℕ) (rs : List Row) → WritesOwn (Unit {0}) body.now (λ q. emit_check (body_told body.now) q (set_of context.old.is_bound) l (row.Loop r) rs) w.old context.old (opens_told result) w.new context.new }
+    ensures { (l : ℕ) (rs : List Row) → WritesOwn (Unit {0}) body.now (check_at body.now context.old l (row.Loop r) rs) w.old context.old (opens_told result) w.new context.new }
 {
-    let row = binding_row(body.plan, body.t, r);
-    let q = body.plan.list_word(row, SOURCES, 0);
+    let row = body.plan.row_at(body.bindings, r);
+    let q = body.plan.word(row, SOURCES);
     insert(&mut context.is_bound, r);
     w.put_indent(context.nesting.depth);
     loop_head(w, context.nesting.depth, r, q);
@@ -91,7 +91,7 @@ pub fn emit_check(
     r: usize,
     last: usize,
 ) -> Option<Purpose>
-    ensures { WritesOwn (context.old.nesting.depth < 4294967296) body.now (λ q. emit_check (body_told body.now) q (set_of context.old.is_bound) (nth (row_in body.now r) 0) (control_flow_of (row_in body.now r)) (rows_in body.now last (r + 1))) w.old context.old (opens_told result) w.new context.new }
+    ensures { let b = body.now in WritesOwn (context.old.nesting.depth < 4294967296) b (check_at b context.old (nth (row_in b r) 0) (control_flow_of (row_in b r)) (rows_in b last (r + 1))) w.old context.old (opens_told result) w.new context.new }
 {
     match control_flow_at(body.plan, r) {
         ControlFlow::Match { source } => {

@@ -1,9 +1,8 @@
 -- `Puts` of a `Sink` of the code: the buffer, the position and one more than the room stand in one value. Assumes nothing.
-use Rattle.std.specs.Prelude.{ℕ, ◌+◌, ◌-◌, ◌≤◌, ◌≡◌, refl, List, [], ◌++◌, length, take, drop}
+use Rattle.std.specs.Prelude.{ℕ, ◌+◌, ◌≤◌, ◌≡◌, refl, List, [], ◌++◌, length}
 use Rattle.std.proofs.Common.{◌∙◌, subst, arith}
 use Rattle.text.specs.Sink.{Puts}
 use Rattle.text.specs.SinkLaws.{◌then◌, puts_nil, puts_past}
-use Rattle.text.specs.Filled.{Filled, puts_filled}
 use Rattle.text.specs.declared.sink.Sink.{Sink}
 
 -- the text t more; the lent buffer, the room and the count of odd literals are the same
@@ -29,7 +28,3 @@ writes_then {s} {t} {w} {w₁} {w₂} p q = record {
   odd = q.odd ∙ p.odd;
   puts = p.puts then (subst (λ (e : ℕ). Puts e t w₁.out.now w₁.at w₂.out.now w₂.at) p.end q.puts);
 }
-
--- the text that was filled in before an array's end
-pub writes_filled : {t : List ℕ} {first' : ℕ} {a a' : List ℕ} {w w' : Sink} (n : ℕ) → length a ≡ n → Filled t n a first' a' → Writes (take (n - first') (drop first' a')) w w' → Writes t w w'
-writes_filled n l p q = record { buffer = q.buffer; end = q.end; odd = q.odd; puts = puts_filled n l p q.puts }

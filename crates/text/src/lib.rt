@@ -1,5 +1,6 @@
 // Texts put into a lent buffer, or only measured: bytes, runs of spaces and numbers.
 #![tactic(auto)]
 
+mod digits;
 pub mod number;
 pub mod sink;

@@ -1,12 +1,10 @@
 // Numbers put into the sink as digits, as Rust's `{}` and `{:x}` write them.
-// The digits are filled into a local array from its end, the last one first, and put as one text.
-ghost use Rattle.std.specs.Prelude.{◌≡◌, suc, ◌+◌, ◌-◌, ◌*◌, ◌/◌, ◌^◌, ◌≤◌, ◌<◌, length};
+ghost use Rattle.std.specs.Prelude.{◌≡◌, ◌+◌, ◌*◌, ◌^◌, ◌<◌};
 ghost use Rattle.text.specs.Writes.{Writes};
-ghost use Rattle.text.specs.Digits.{digits, digit, decimal, hexadecimal, signed};
-ghost use Rattle.text.specs.DigitsLaws.{padded};
-ghost use Rattle.text.specs.Filled.{Filled};
+ghost use Rattle.text.specs.Digits.{decimal, hexadecimal, signed};
 ghost use Rattle.text.specs.Wide.{whole, Grouped};
 
+use super::digits::Digits;
 use super::sink::Sink;
 
 // A number of 128 bits in two halves.
@@ -23,63 +21,6 @@ struct Groups {
     high: u64,
     middle: u64,
     low: u64,
-}
-
-fn from_digit(d: u64) -> u8
-    requires { d < 16 }
-    ensures { result ≡ digit d }
-{
-    match d {
-        0..=9 => b'0' + d as u8,
-        _ => b'a' + (d - 10) as u8,
-    }
-}
-
-// The last K digits of n to the base B, zeros in front included, before the place `first`; the quotient is what is left.
-fn fill_padded<const B: u64, const K: usize>(text: &mut [u8; 40], first: usize, n: u64) -> u64
-    requires { (2 ≤ B) × (B ≤ 16) × (K ≤ first) × (first ≤ 40) × (length text.old ≡ 40) }
-    ensures filled { Filled (padded B K n) first text.old (first - K) text.new }
-    ensures left { result ≡ n / B ^ K }
-{
-    let mut rest = n;
-    for i in 0..K {
-        text[first - 1 - i] = from_digit(rest % B);
-        rest /= B;
-    }
-    rest
-}
-
-// The digits of n to the base B, before the place `first`: the place of the first one. No `for`: it ends by what is left of the number.
-fn fill_digits<const B: u64>(text: &mut [u8; 40], first: usize, n: u64) -> usize
-    requires { (2 ≤ B) × (B ≤ 16) × (1 ≤ first) × (first ≤ 40) × (n < B ^ first) × (length text.old ≡ 40) }
-    ensures filled { Filled (digits B (suc n) n) first text.old result text.new }
-    ensures place { result ≤ 40 }
-{
-    let mut place = first;
-    let mut rest = n;
-    while B <= rest {
-        place -= 1;
-        text[place] = from_digit(rest % B);
-        rest /= B;
-    }
-    place -= 1;
-    text[place] = from_digit(rest);
-    place
-}
-
-// The decimal digits of n, likewise: four of them in a step, as long as there are more.
-fn fill_decimal(text: &mut [u8; 40], first: usize, n: u64) -> usize
-    requires { (1 ≤ first) × (first ≤ 40) × (n < 10 ^ first) × (length text.old ≡ 40) }
-    ensures filled { Filled (decimal n) first text.old result text.new }
-    ensures place { result ≤ 40 }
-{
-    let mut place = first;
-    let mut rest = n;
-    while 10000 <= rest {
-        rest = fill_padded::<10, 4>(text, place, rest);
-        place -= 4;
-    }
-    fill_digits::<10>(text, place, rest)
 }
 
 // A number of 128 bits in groups of eight decimal digits. The powers of 2^32 are
@@ -133,23 +74,23 @@ impl Sink<'_> {
     pub fn put_decimal(&mut self, n: u64)
         ensures { Writes (decimal n) self.old self.new }
     {
-        let mut text = [0u8; 40];
-        let first = fill_decimal(&mut text, 40, n);
-        self.put_bytes(&text[first..]);
+        let mut digits = Digits::new();
+        digits.fill_decimal(n);
+        self.put_bytes(digits.as_bytes());
     }
 
     // The hexadecimal digits, with no zeros in front.
     pub fn put_hex(&mut self, n: Wide)
         ensures { Writes (hexadecimal (whole n)) self.old self.new }
     {
-        let mut text = [0u8; 40];
+        let mut digits = Digits::new();
         if n.high == 0 {
-            let first = fill_digits::<16>(&mut text, 40, n.low);
-            return self.put_bytes(&text[first..]);
+            digits.fill_digits::<16>(n.low);
+            return self.put_bytes(digits.as_bytes());
         }
-        fill_padded::<16, 16>(&mut text, 40, n.low);
-        let first = fill_digits::<16>(&mut text, 24, n.high);
-        self.put_bytes(&text[first..]);
+        digits.fill_padded::<16, 16>(n.low);
+        digits.fill_digits::<16>(n.high);
+        self.put_bytes(digits.as_bytes());
     }
 
     pub fn put_decimal_wide(&mut self, n: Wide)
@@ -159,16 +100,16 @@ impl Sink<'_> {
             return self.put_decimal(n.low);
         }
         let g = n.groups();
-        let mut text = [0u8; 40];
-        fill_padded::<10, 8>(&mut text, 40, g.low);
-        fill_padded::<10, 8>(&mut text, 32, g.middle);
+        let mut digits = Digits::new();
+        digits.fill_padded::<10, 8>(g.low);
+        digits.fill_padded::<10, 8>(g.middle);
         if g.top == 0 {
-            let first = fill_decimal(&mut text, 24, g.high);
-            return self.put_bytes(&text[first..]);
+            digits.fill_decimal(g.high);
+            return self.put_bytes(digits.as_bytes());
         }
-        fill_padded::<10, 8>(&mut text, 24, g.high);
-        let first = fill_decimal(&mut text, 16, g.top);
-        self.put_bytes(&text[first..]);
+        digits.fill_padded::<10, 8>(g.high);
+        digits.fill_decimal(g.top);
+        self.put_bytes(digits.as_bytes());
     }
 
     // The two's complement n of 128 bits as a signed decimal.

@@ -6,10 +6,10 @@ ghost use Rattle.text.specs.Split.{split, same};
 ghost use Rattle.plan.specs.Layout.{number, hex_digit, hex_digits, hex_from};
 ghost use Rattle.tokens.specs.Token.{until, Columns, place, numeral, hex_value, hex_numeral, told};
 
-// The place of the first byte b of s at or after from, or the length of s where there is none: that is where a last item ends, and so no
-// Option.
+// Where what stands from `from` on ends: at the first byte b, or at the end of s. No `position`: a list of short items took a fifth longer to
+// read, and so it did by way of an Option.
 #[tactic(auto, using(crate::proofs::Laws::until_end, crate::proofs::Laws::until_here, crate::proofs::Laws::until_next))]
-pub fn find(s: &[u8], from: usize, b: u8) -> usize
+pub fn end_of(s: &[u8], from: usize, b: u8) -> usize
     requires { from ≤ length s.now }
     ensures { (result ≡ from + until b (drop from s.now)) × (result ≤ length s.now) }
 {
@@ -19,6 +19,16 @@ pub fn find(s: &[u8], from: usize, b: u8) -> usize
         }
     }
     s.len()
+}
+
+// The place of the first byte b of s at or after from, if there is one.
+pub fn find(s: &[u8], from: usize, b: u8) -> Option<usize>
+    requires { from ≤ length s.now }
+    ensures none { IfNone result (from + until b (drop from s.now) ≡ length s.now) }
+    ensures place { IfSome result (λ i. (i ≡ from + until b (drop from s.now)) × (i < length s.now)) }
+{
+    let i = end_of(s, from, b);
+    (i < s.len()).then_some(i)
 }
 
 // Whether b is one of the 16 bytes of s from i on. All are looked at, since a loop without a way out takes them at a time.
@@ -35,9 +45,10 @@ fn is_near(s: &[u8], i: usize, b: u8) -> bool
 }
 
 // What `find` finds, where it may be far. No `for`: what is left is looked at from where the last whole 16 end.
-pub fn find_far(s: &[u8], from: usize, b: u8) -> usize
+pub fn find_far(s: &[u8], from: usize, b: u8) -> Option<usize>
     requires { from ≤ length s.now }
-    ensures { (result ≡ from + until b (drop from s.now)) × (result ≤ length s.now) }
+    ensures none { IfNone result (from + until b (drop from s.now) ≡ length s.now) }
+    ensures place { IfSome result (λ i. (i ≡ from + until b (drop from s.now)) × (i < length s.now)) }
 {
     let mut i = from;
     while 16 <= s.len() - i {
@@ -64,15 +75,16 @@ pub struct Line<'a> {
     pub text: &'a [u8],
     starts: [usize; 10],
     pub count: usize,
+    ghost columns: { Columns text.now starts },
 }
 
 impl<'a> Line<'a> {
     // At each byte the place after it is stored, and kept only if the byte is a space: a loop that does not branch on the bytes,
     // since no processor foresees where a short column ends.
+    #[tactic(auto, using(crate::proofs::Laws::cutting_last, crate::proofs::Laws::cutting_more))]
     pub fn cut(text: &'a [u8]) -> Line<'a>
         ensures text { result.text.now ≡ text.now }
         ensures count { result.count ≡ min 10 (length (split (eqb 32) text.now)) }
-        ensures starts { Columns text.now result.starts }
     {
         let mut starts = [0; 10];
         let mut k = 0;
@@ -103,7 +115,7 @@ impl<'a> Line<'a> {
         requires { n < 10 }
         ensures other { IfNone result (length (split (eqb 32) text.now) ≢ n) }
         ensures count { OnSome result (length (split (eqb 32) text.now) ≡ n) }
-        ensures line { IfSome result (λ l. (l.text.now ≡ text.now) × Columns text.now l.starts) }
+        ensures text { IfSome result (λ l. l.text.now ≡ text.now) }
     {
         let line = Line::cut(text);
         if line.count == n { Some(line) } else { None }
@@ -112,7 +124,7 @@ impl<'a> Line<'a> {
     // The column k.
     #[tactic(auto, using(crate::proofs::Laws::column_at))]
     pub fn column(&self, k: usize) -> &'a [u8]
-        requires { Columns self.now.text.now self.now.starts × (k < 9) × (k < length (split (eqb 32) self.now.text.now)) }
+        requires { (k < 9) × (k < length (split (eqb 32) self.now.text.now)) }
         ensures { result.now ≡ get_or (split (eqb 32) self.now.text.now) k [] }
     {
         let from = self.starts[k];

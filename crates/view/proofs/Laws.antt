@@ -1,14 +1,18 @@
 -- Laws of the rows and tables that the buffers hold. Assumes nothing.
 use Prim.Native.Nat.{ℕ, zero, suc, ◌+◌, ◌-◌, ◌≤◌, ◌<◌, min}
 use mathlib.Core.Path.{◌≡◌, refl, sym, ap, ◌∙◌}
+use mathlib.Core.Logic.{inl, inr}
 use mathlib.Core.Bool.{Bool, true, false}
 use mathlib.Core.List.{List, [], ◌∷◌}
 use lib.Dec.{ltb}
 use borrow.Author.Tests.{ltb-true, ltb-false}
 use native.Mathlib.Omega.{arith}
-use lib.ListN.{length, take, drop, get_or, length-take, length-drop, drop_of_length-le, get_or-eq_default}
-use lib.Seq.{slice, take_all, take-nil, get_or-drop, get_or-take}
-use Rattle.rows.specs.View.{nth}
+use lib.ListN.{length, take, drop, get_or, length-take, drop_of_length-le, get_or-eq_default}
+use lib.Seq.{slice, take_all, take-nil}
+use Rattle.std.specs.Prelude.{Option, Some, None}
+use Rattle.std.specs.Option.{unwrap_or}
+use Rattle.std.proofs.Common.{Bor}
+use Rattle.std.specs.Slice.{IsGetRangeResult}
 use Rattle.layout.specs.View.{cut, cuts}
 use Rattle.view.specs.Tables.{table_rows, tables_from}
 
@@ -17,19 +21,6 @@ pub past : (index : List ℕ) (i : ℕ) → length index ≤ i → 0 ≡ get_or 
 past index i h = sym (get_or-eq_default index 0 h)
 
 module _ (words rows : List ℕ) (r : ℕ) where
-  pub row_length : length (cut words rows r) ≡ min (get_or rows (r + 1) 0) (length words) - get_or rows r 0
-  unfolding cut
-  row_length = simp (length-drop, length-take)
-
-  pub cell_past : (k : ℕ) → length (cut words rows r) ≤ k → 0 ≡ nth (cut words rows r) k
-  cell_past k h = sym (get_or-eq_default (cut words rows r) 0 h)
-
-  pub cell_at : (k : ℕ) → k < length (cut words rows r) → get_or words (get_or rows r 0 + k) 0 ≡ nth (cut words rows r) k
-  unfolding cut
-  cell_at k h =
-      sym (get_or-drop (get_or rows r 0) (take (get_or rows (r + 1) 0) words) k 0
-      ∙ get_or-take (get_or rows (r + 1) 0) words (get_or rows r 0 + k) 0 (omega (arith, row_length)))
-
   -- no row
   pub cut_past : length rows ≤ r → cut words rows r ≡ []
   unfolding cut
@@ -81,6 +72,16 @@ module _ (words rows tables : List ℕ) where
 
 -- PARTS
 
+-- the words after the first of a row, also where it has fewer
+pub drop_min : (n : ℕ) (l : List ℕ) → drop (min n (length l)) l ≡ drop n l
+drop_min n l = by_test (ltb n (length l)) refl where
+  by_test : (t : Bool) → ltb n (length l) ≡ t → drop (min n (length l)) l ≡ drop n l
+  by_test true h = let g = ltb-true n (length l) h in let z : min n (length l) ≡ n = omega arith in rw z
+  by_test false h =
+      let g = ltb-false n (length l) h in
+      let z : min n (length l) ≡ length l = omega arith in
+      rw z (drop_of_length-le l (omega arith) ∙ sym (drop_of_length-le l g))
+
 take_min : (b : ℕ) (l : List ℕ) → take (min b (length l)) l ≡ take b l
 take_min b l = by_test (ltb b (length l)) refl where
   by_test : (t : Bool) → ltb b (length l) ≡ t → take (min b (length l)) l ≡ take b l
@@ -102,11 +103,15 @@ module _ (l : List ℕ) (a b from to : ℕ) (p : from ≡ a) (q : to ≡ min b (
   same_slice : slice from to l ≡ slice a b l
   same_slice = rw (p, q, take_min b l) refl
 
-  pub part_is : from ≤ to → take (to - from) (drop from l) ≡ slice a b l
+  part_is : from ≤ to → take (to - from) (drop from l) ≡ slice a b l
   part_is h = part_slice from to l h ∙ same_slice
 
-  pub part_none : to < from → take (to - to) (drop to l) ≡ slice a b l
+  part_none : to < from → [] ≡ slice a b l
   part_none h =
       let s : length (take to l) ≤ from = rw length-take (omega arith) in
-      let g : length (take to l) ≤ to = rw length-take (omega arith) in
-      part_slice to to l (omega arith) ∙ drop_of_length-le (take to l) g ∙ sym (drop_of_length-le (take to l) s) ∙ same_slice
+      sym (drop_of_length-le (take to l) s) ∙ same_slice
+
+  pub part_found : (r : Option (Bor (List ℕ))) (d : Bor (List ℕ)) → d.now ≡ [] → IsGetRangeResult l from to r → (unwrap_or r d).now ≡ slice a b l
+  part_found None d e (inl h, g) = e ∙ part_none h
+  part_found None d e (inr h, g) = absurd (omega arith)
+  part_found (Some x) d e (h, g) = h.2 ∙ part_is h.0

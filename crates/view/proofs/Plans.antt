@@ -1,24 +1,28 @@
 -- The environment and the generated terms that the buffers hold. Assumes nothing.
 use Prim.Native.Nat.{ℕ, zero, suc, ◌+◌, ◌-◌, ◌/◌, ◌≤◌, ◌<◌}
 use mathlib.Core.Path.{◌≡◌, refl, sym, ap, ◌∙◌}
+use mathlib.Core.Logic.{inl, inr}
 use mathlib.Core.Bool.{Bool, true, false}
 use mathlib.Core.List.{List, [], ◌∷◌, ◌++◌, map}
 use native.Mathlib.Omega.{arith}
 use lib.Dec.{ltb}
+use Rattle.std.specs.Prelude.{Some}
 use lib.ListN.{length, drop, get_or, length-map, length-append, get_or-map, get_or-append, get_or-eq_default}
 use lib.Seq.{get_or-append-add}
-use borrow.Author.Tests.{ltb-true, ltb-false}
+use borrow.Author.Tests.{lt-ltb, ltb-true, ltb-false}
 use Rattle.literal.specs.BuiltinType.{all}
 use Rattle.literal.specs.declared.builtin_type.BuiltinType.{BuiltinType}
 use Rattle.literal.specs.declared.builtin_type.BuiltinType.TheVariants as builtin
 use Rattle.plan.specs.Plan.{Builtin}
 use Rattle.plan.specs.Layout.{builtins}
 use Rattle.plan.specs.Lookup.{type_at, term_at}
-use Rattle.rows.specs.View.{type_of, variant_of, term_of, function_of}
+use Rattle.rows.specs.View.{nth, flagged, type_of, variant_of, term_of, function_of}
 use Rattle.layout.specs.Scan.{Tables}
-use Rattle.layout.specs.View.{text_of, environment_of, generated_of, plan_of_tables}
+use Rattle.layout.specs.View.{cut, text_of, environment_of, generated_of, plan_of_tables}
 use Rattle.view.specs.Tables.{table_rows, tables_from, tables_in, environment_in, plan_in, generated_at, generated_from}
-use Rattle.view.proofs.Laws.{past, cuts_none, tables_at, tables_length}
+use Rattle.view.specs.Buffers.{words_of, rows_of, env_of, Undeclared, IfDeclared}
+use Rattle.view.specs.declared.buffers.Plan.{Plan}
+use Rattle.view.proofs.Laws.{past, cuts_none, table_at, table_past, table_length, tables_at, tables_length}
 
 module _ (words rows tables : List ℕ) where
   -- a table's rows, by its number; none past the last table
@@ -130,3 +134,36 @@ module _ (words rows tables : List ℕ) where
           mapped [] k g = absurd (omega arith)
           mapped (x ∷ l) zero g = refl
           mapped (x ∷ l) (suc k) g = mapped l k (omega arith)
+
+-- THE ROWS, TYPES AND TERMS OF A PLAN'S VALUE
+
+module _ (p : Plan) where
+  same_length : (t : ℕ) (words : List ℕ) → length (table_rows words p.rows.now p.tables.now t) ≡ length (rows_of p t)
+  same_length t words = table_length words p.rows.now p.tables.now t ∙ sym (table_length p.words.now p.rows.now p.tables.now t)
+
+  -- a table's row, whatever the words are
+  pub row_there : (t i : ℕ) → i < length (rows_of p t) → (words : List ℕ) → cut words p.rows.now (get_or p.tables.now t 0 + i) ≡ get_or (table_rows words p.rows.now p.tables.now t) i []
+  row_there t i h words = table_at words p.rows.now p.tables.now t i (omega (arith, same_length t words))
+
+  pub row_none : (t i : ℕ) → length (rows_of p t) ≤ i → (words : List ℕ) → cut words p.rows.now (length p.rows.now) ≡ get_or (table_rows words p.rows.now p.tables.now t) i []
+  row_none t i h words = table_past words p.rows.now p.tables.now t i (omega (arith, same_length t words))
+
+  -- a type that the plan does not declare is a builtin one, `bool` where there is none
+  pub builtin_data : (n : ℕ) → Undeclared (env_of p) n → Builtin (get_or all n builtin.Bool) ≡ type_at (env_of p) n
+  builtin_data n (inl h) = sym (builtin_is p.words.now p.rows.now p.tables.now p.bytes.now n h)
+  builtin_data n (inr h) =
+      let g : 13 ≤ n = omega (arith, types_count p.words.now p.rows.now p.tables.now p.bytes.now) in
+      ap Builtin (get_or-eq_default all builtin.Bool {n = n} g) ∙ sym (get_or-eq_default (env_of p).types (Builtin builtin.Bool) h)
+
+  pub type_past : (n : ℕ) → 13 ≤ n → length (rows_of p 4) ≤ n - 13 → Undeclared (env_of p) n
+  type_past n h g = inr (omega (arith, types_count p.words.now p.rows.now p.tables.now p.bytes.now))
+
+  pub type_there : (n i r : ℕ) → 13 ≤ n → i ≡ n - 13 → i < length (rows_of p 4) → words_of p r ≡ get_or (rows_of p 4) i [] → IfDeclared p n (Some r)
+  type_there n i r h e g q = (
+    lt-ltb n (length (env_of p).types) (omega (arith, types_count p.words.now p.rows.now p.tables.now p.bytes.now)),
+    type_is p.words.now p.rows.now p.tables.now p.bytes.now n h (rw e at g) ∙ ap type_of (sym (rw e at q)),
+  )
+
+  pub multi_is : (m r : ℕ) → words_of p r ≡ get_or (rows_of p 6) m [] → flagged (nth (words_of p r) 3) ≡ (term_at (env_of p) m).multi
+  unfolding term_of
+  multi_is m r q = rw (term_is p.words.now p.rows.now p.tables.now p.bytes.now m, q)

@@ -2,3 +2,4 @@ pub mod Tables
 pub mod Told
 pub mod BlockRows
 pub mod Buffers
+pub mod Kinds

@@ -1,5 +1,6 @@
 -- What the declared types say in the definition's terms. Assumes nothing: these are definitions.
-use Rattle.std.specs.Prelude.{ℕ, ◌+◌, ◌-◌, ◌*◌, List}
+use Rattle.std.specs.Prelude.{ℕ, ◌-◌, List}
+use Rattle.text.specs.Wide.{whole}
 use Rattle.plan.specs.Plan as plan
 use Rattle.plan.specs.Binding as binding
 use Rattle.plan.specs.Constraint as constraint
@@ -13,21 +14,17 @@ use Rattle.view.specs.declared.block.ControlFlow.{ControlFlow}
 use Rattle.view.specs.declared.block.ControlFlow.TheVariants as f
 use Rattle.view.specs.declared.environment.FunctionKind.{FunctionKind}
 use Rattle.view.specs.declared.environment.FunctionKind.TheVariants as k
-use Rattle.view.specs.declared.environment.Shape.{Shape}
-use Rattle.view.specs.declared.environment.Shape.TheVariants as s
+use Rattle.rows.specs.declared.kinds.Shape.{Shape}
+use Rattle.rows.specs.declared.kinds.Shape.TheVariants as s
 use Rattle.view.specs.declared.environment.Declared.{Declared}
 use Rattle.view.specs.declared.environment.Term.{Term}
 use Rattle.view.specs.declared.environment.TypeData.{TypeData}
 use Rattle.view.specs.declared.environment.TypeData.TheVariants as t
 use Rattle.view.specs.declared.environment.Variant.{Variant}
 
--- a value of 128 bits in two halves
-abbrev pub whole : ℕ → ℕ → ℕ
-whole high low = low + 18446744073709551616 * high
-
 abbrev pub binding_told : Binding → binding.Binding
 binding_told (b.ConstBool v) = binding.ConstBool v
-binding_told (b.ConstInt ty high low) = binding.ConstInt ty (whole high low)
+binding_told (b.ConstInt ty v) = binding.ConstInt ty (whole v)
 binding_told (b.ConstPrim v) = binding.ConstPrim v
 binding_told (b.Argument i) = binding.Argument i
 binding_told (b.Extractor m) = binding.Extractor m
@@ -43,7 +40,7 @@ binding_told (b.ExtractStruct n) = binding.ExtractStruct n
 
 abbrev pub constraint_told : Constraint → constraint.Constraint
 constraint_told (c.ConstBool v) = constraint.ConstBool v
-constraint_told (c.ConstInt ty high low) = constraint.ConstInt ty (whole high low)
+constraint_told (c.ConstInt ty v) = constraint.ConstInt ty (whole v)
 constraint_told (c.ConstPrim v) = constraint.ConstPrim v
 constraint_told (c.Variant ty v) = constraint.Variant ty v
 constraint_told (c.Struct ty) = constraint.Struct ty

@@ -1,14 +1,19 @@
 // Bindings: `Binding` of trie_again.rs 56, without the sources, which are the row's list.
 ghost use Rattle.std.specs.Prelude.{◌≡◌, ◌+◌, ◌*◌};
-ghost use Rattle.rows.specs.View.{nth, binding_of};
+ghost use Rattle.text.specs.Wide.{whole};
+ghost use Rattle.values.specs.Value.{value_of};
+ghost use Rattle.rows.specs.View.{nth, wide_at, binding_of};
+ghost use Rattle.view.specs.Kinds.{binding_by};
 ghost use Rattle.view.specs.Told.{binding_told};
 
-use super::word_in;
+use super::{list_in, word_in};
+use rows::kinds::BindingKind;
+use text::number::Wide;
 
 #[derive(Clone, Copy)]
 pub enum Binding {
     ConstBool { val: bool },
-    ConstInt { ty: usize, high: u64, low: u64 },
+    ConstInt { ty: usize, val: Wide },
     ConstPrim { val: usize },
     Argument { index: usize },
     Extractor { term: usize },
@@ -23,44 +28,62 @@ pub enum Binding {
     ExtractStruct { field: usize },
 }
 
-// Two words of a row, the low one first: the buffers have words of 32 bits.
-pub fn half_in(row: &[u32], low: usize, high: usize) -> u64
-    ensures { result ≡ nth row.now low + 4294967296 * nth row.now high }
+// Two words, the low one first: the buffers have words of 32 bits.
+fn half(low: u32, high: u32) -> u64
+    ensures { result ≡ low + 4294967296 * high }
 {
-    u64::from(word_in(row, low)) + 4294967296 * u64::from(word_in(row, high))
+    u64::from(low) + 4294967296 * u64::from(high)
+}
+
+// The integer of a row's four words from the word i on.
+#[tactic(auto, using(crate::proofs::Made::halves))]
+pub(crate) fn wide_in(row: &[u32], i: usize) -> Wide
+    ensures { whole result ≡ value_of (wide_at row.now i) }
+{
+    let words = list_in(row, i);
+    Wide {
+        high: half(word_in(words, 2), word_in(words, 3)),
+        low: half(word_in(words, 0), word_in(words, 1)),
+    }
 }
 
 impl Binding {
-    // The binding of a row's words. Those after the second are read only for the kinds that have them. The numbers of the kinds are the
-    // reader's, in the order of the plan's words.
-    pub fn of(row: &[u32]) -> Binding
-        ensures { binding_told result ≡ (binding_of row.now).binding }
+    // The binding of a kind, of a row's words: a function of its own, whose arms prove without a lemma.
+    fn of_kind(kind: BindingKind, row: &[u32]) -> Binding
+        ensures { binding_told result ≡ binding_by kind row.now }
     {
-        let k = word_in(row, 0);
         let n = word_in(row, 1) as usize;
-        match k {
-            0 => Binding::ConstBool { val: n == 1 },
-            1 => Binding::ConstInt {
+        match kind {
+            BindingKind::ConstBool => Binding::ConstBool { val: n == 1 },
+            BindingKind::ConstInt => Binding::ConstInt {
                 ty: n,
-                high: half_in(row, 4, 5),
-                low: half_in(row, 2, 3),
+                val: wide_in(row, 2),
             },
-            2 => Binding::ConstPrim { val: n },
-            3 => Binding::Argument { index: n },
-            4 => Binding::Extractor { term: n },
-            5 => Binding::Constructor { term: n },
-            6 => Binding::Iterator,
-            7 => Binding::MakeVariant {
+            BindingKind::ConstPrim => Binding::ConstPrim { val: n },
+            BindingKind::Argument => Binding::Argument { index: n },
+            BindingKind::Extractor => Binding::Extractor { term: n },
+            BindingKind::Constructor => Binding::Constructor { term: n },
+            BindingKind::Iterator => Binding::Iterator,
+            BindingKind::MakeVariant => Binding::MakeVariant {
                 ty: n,
                 variant: word_in(row, 2) as usize,
             },
-            8 => Binding::MakeStruct { ty: n },
-            9 => Binding::MakeSome,
-            10 => Binding::MatchSome,
-            11 => Binding::MatchTuple { field: n },
-            12 => Binding::MatchVariant { field: n },
-            13 => Binding::ExtractStruct { field: n },
-            _ => Binding::Iterator,
+            BindingKind::MakeStruct => Binding::MakeStruct { ty: n },
+            BindingKind::MakeSome => Binding::MakeSome,
+            BindingKind::MatchSome => Binding::MatchSome,
+            BindingKind::MatchTuple => Binding::MatchTuple { field: n },
+            BindingKind::MatchVariant => Binding::MatchVariant { field: n },
+            BindingKind::ExtractStruct => Binding::ExtractStruct { field: n },
         }
+    }
+}
+
+// The binding of a row's words. Those after the second are read only for the kinds that have them.
+impl From<&[u32]> for Binding {
+    ghost from_gives = { λ row binding. binding_told binding ≡ (binding_of row.now).binding };
+
+    #[tactic(auto, using(crate::proofs::Made::binding_by_kind))]
+    fn from(row: &[u32]) -> Binding {
+        Binding::of_kind(BindingKind::from(word_in(row, 0)), row)
     }
 }

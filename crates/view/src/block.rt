@@ -1,9 +1,12 @@
 // The rows of a block: `ControlFlow` of serialize.rs 78, `Constraint` of trie_again.rs 171.
 ghost use Rattle.std.specs.Prelude.{◌≡◌};
+ghost use Rattle.view.specs.Kinds.{step_by, arm_by};
 ghost use Rattle.view.specs.Told.{constraint_told, constraint_of, control_flow_told, control_flow_of};
 
-use super::binding::half_in;
+use super::binding::wide_in;
 use super::word_in;
+use rows::kinds::BlockKind;
+use text::number::Wide;
 
 #[derive(Clone, Copy)]
 pub enum ControlFlow {
@@ -16,7 +19,7 @@ pub enum ControlFlow {
 #[derive(Clone, Copy)]
 pub enum Constraint {
     ConstBool { val: bool },
-    ConstInt { ty: usize, high: u64, low: u64 },
+    ConstInt { ty: usize, val: Wide },
     ConstPrim { val: usize },
     Variant { ty: usize, variant: usize },
     Struct { ty: usize },
@@ -24,20 +27,18 @@ pub enum Constraint {
 }
 
 impl ControlFlow {
-    // What a step's words say. The numbers of the kinds are the reader's, in the order of the plan's words.
-    pub fn of(row: &[u32]) -> ControlFlow
-        ensures { control_flow_told result ≡ control_flow_of row.now }
+    // The step of a kind, of a row's words, an arm as a `match`: a function of its own, whose arms prove without a lemma.
+    fn of_kind(kind: BlockKind, row: &[u32]) -> ControlFlow
+        ensures { control_flow_told result ≡ step_by kind row.now }
     {
-        let k = word_in(row, 1);
         let n = word_in(row, 2) as usize;
-        match k {
-            0 => ControlFlow::Match { source: n },
-            1 => ControlFlow::Equal {
+        match kind {
+            BlockKind::Equal => ControlFlow::Equal {
                 a: n,
                 b: word_in(row, 3) as usize,
             },
-            2 => ControlFlow::Loop { result: n },
-            3 => ControlFlow::Return {
+            BlockKind::Loop => ControlFlow::Loop { result: n },
+            BlockKind::Return => ControlFlow::Return {
                 result: n,
                 pos: word_in(row, 3) as usize,
             },
@@ -46,27 +47,45 @@ impl ControlFlow {
     }
 }
 
+// What a step's words say.
+impl From<&[u32]> for ControlFlow {
+    ghost from_gives = { λ row step. control_flow_told step ≡ control_flow_of row.now };
+
+    #[tactic(auto, using(crate::proofs::Made::step_by_kind))]
+    fn from(row: &[u32]) -> ControlFlow {
+        ControlFlow::of_kind(BlockKind::from(word_in(row, 1)), row)
+    }
+}
+
 impl Constraint {
-    // What an arm's words ask. The kinds of arms come after those of steps.
-    pub fn of(row: &[u32]) -> Constraint
-        ensures { constraint_told result ≡ constraint_of row.now }
+    // The arm of a kind, of a row's words, a step as a `bool`: a function of its own, whose arms prove without a lemma.
+    fn of_kind(kind: BlockKind, row: &[u32]) -> Constraint
+        ensures { constraint_told result ≡ arm_by kind row.now }
     {
-        let k = word_in(row, 1);
         let n = word_in(row, 2) as usize;
-        match k {
-            0..=4 => Constraint::ConstBool { val: n == 1 },
-            5 => Constraint::ConstInt {
+        match kind {
+            BlockKind::ConstInt => Constraint::ConstInt {
                 ty: n,
-                high: half_in(row, 5, 6),
-                low: half_in(row, 3, 4),
+                val: wide_in(row, 3),
             },
-            6 => Constraint::ConstPrim { val: n },
-            7 => Constraint::Variant {
+            BlockKind::ConstPrim => Constraint::ConstPrim { val: n },
+            BlockKind::Variant => Constraint::Variant {
                 ty: n,
                 variant: word_in(row, 3) as usize,
             },
-            8 => Constraint::Struct { ty: n },
-            _ => Constraint::Some,
+            BlockKind::Struct => Constraint::Struct { ty: n },
+            BlockKind::Some => Constraint::Some,
+            _ => Constraint::ConstBool { val: n == 1 },
         }
+    }
+}
+
+// What an arm's words ask.
+impl From<&[u32]> for Constraint {
+    ghost from_gives = { λ row arm. constraint_told arm ≡ constraint_of row.now };
+
+    #[tactic(auto, using(crate::proofs::Made::arm_by_kind))]
+    fn from(row: &[u32]) -> Constraint {
+        Constraint::of_kind(BlockKind::from(word_in(row, 1)), row)
     }
 }

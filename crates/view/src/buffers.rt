@@ -1,16 +1,21 @@
 // A plan in the reader's buffers, with accessors: `Plan` of the definitions is what they hold (specs/Held.antt).
 // Nothing is asked of the buffers: what is not there reads as 0.
-ghost use Rattle.std.specs.Prelude.{◌≡◌, ◌+◌, ◌<◌, ltb, [], length, get_or, drop};
-ghost use Rattle.plan.specs.Lookup.{fields_of, field_count};
+ghost use Rattle.std.specs.Prelude.{◌≡◌, ℕ, ◌+◌, ◌<◌, eqb, ltb, List, [], length, get_or, drop};
+ghost use Rattle.plan.specs.Lookup.{type_at, term_at, fields_of, field_count};
 ghost use Rattle.rows.specs.View.{nth, flagged, function_of, type_of, variant_of, term_of, binding_of};
+ghost use Rattle.rows.specs.Kinds.{block_kind};
 ghost use Rattle.layout.specs.View.{cut, text_of};
-ghost use Rattle.view.specs.Told.{function_told, fields_told, type_told, variant_told, term_told, binding_told, control_flow_told, control_flow_of, constraint_told, constraint_of};
-ghost use Rattle.view.specs.Buffers.{words_of, rows_of, variants_in};
+ghost use Rattle.view.specs.Told.{function_told, type_told, variant_told, term_told, binding_told, control_flow_told, control_flow_of, constraint_told, constraint_of};
+ghost use Rattle.view.specs.Buffers.{words_of, rows_of, variants_in, env_of, type_by_row, IfDeclared};
+ghost use Rattle.view.specs.Tables.{table_rows};
 
 use super::binding::Binding;
 use super::block::{Constraint, ControlFlow};
-use super::environment::{FunctionKind, Shape, Term, TypeData, Variant};
-use super::{bound, next_bound, part, word_in};
+use super::environment::{FunctionKind, Term, TypeData, Variant};
+use super::tables::{TERMS, TYPES};
+use super::{bound, list_in, next_bound, part, word_in};
+use literal::builtin_type::BuiltinType;
+use rows::kinds::BlockKind;
 
 // `bytes` is the plan itself, `words` has the words of all rows, `rows` where each row's words end, `tables` where each table's rows
 // end, and `index` where the variants of each type stand (crate `variants`); before they are indexed it is empty.
@@ -52,29 +57,11 @@ impl<'a> Plan<'a> {
         self.cell(r, k) == 1
     }
 
-    // How many words row r has.
-    pub fn row_len(&self, r: usize) -> usize
-        ensures { result ≡ length (words_of self.now r) }
+    // The list of row r, which stands after `header` words.
+    pub fn list(&self, r: usize, header: usize) -> &'a [u32]
+        ensures { result.now ≡ drop header (words_of self.now r) }
     {
-        self.row(r).len()
-    }
-
-    // How many words the list of row r has, which stands after `header` words.
-    pub fn list_len(&self, r: usize, header: usize) -> usize
-        ensures { result ≡ length (drop header (words_of self.now r)) }
-    {
-        self.row_len(r).saturating_sub(header)
-    }
-
-    // The word i of the list of row r, which stands after `header` words.
-    pub fn list_word(&self, r: usize, header: usize, i: usize) -> usize
-        ensures { result ≡ nth (drop header (words_of self.now r)) i }
-    {
-        let row = self.row(r);
-        if row.len() < header {
-            return 0;
-        }
-        word_in(&row[header..], i) as usize
+        list_in(self.row(r), header)
     }
 
     // The text of row r, whose words are its start and its end in the plan.
@@ -82,15 +69,12 @@ impl<'a> Plan<'a> {
         ensures { result.now ≡ text_of self.now.bytes.now (words_of self.now r) }
     {
         let row = self.row(r);
-        let from = word_in(row, 0) as usize;
         let to = (word_in(row, 1) as usize).min(self.bytes.len());
-        if to < from {
-            return &self.bytes[to..to];
-        }
-        &self.bytes[from..to]
+        self.bytes.get(word_in(row, 0) as usize..to).unwrap_or(&[])
     }
 
     // How many rows table t has.
+    #[tactic(auto, using(crate::proofs::Laws::table_length))]
     pub fn row_count(&self, t: usize) -> usize
         ensures { (result ≡ length (rows_of self.now t)) × (result < 4294967296) }
     {
@@ -99,8 +83,10 @@ impl<'a> Plan<'a> {
 
     // The number of row i of table t; where the table has no such row, a number that no row has. No Option: such a row reads as no words,
     // as in the definition, and nobody asks.
+    #[tactic(auto, using(crate::proofs::Plans::row_there, crate::proofs::Plans::row_none))]
     pub fn row_at(&self, t: usize, i: usize) -> usize
-        ensures { words_of self.now result ≡ get_or (rows_of self.now t) i [] }
+        ensures own { words_of self.now result ≡ get_or (rows_of self.now t) i [] }
+        ensures any { (words : List ℕ) → let p = self.now in cut words p.rows.now result ≡ get_or (table_rows words p.rows.now p.tables.now t) i [] }
     {
         if self.row_count(t) <= i {
             return self.rows.len();
@@ -121,6 +107,28 @@ impl<'a> Plan<'a> {
         next_bound(self.tables, t)
     }
 
+    // The row of the type n, unless it is a builtin one or there is none.
+    #[tactic(auto, using(crate::proofs::Plans::builtin_data, crate::proofs::Plans::type_past))]
+    pub fn type_row(&self, n: usize) -> Option<usize>
+        ensures declared { IfDeclared self.now n result }
+        ensures data { type_by_row self.now n result ≡ type_at (env_of self.now) n }
+    {
+        let i = n.checked_sub(BuiltinType::COUNT)?;
+        if i < self.row_count(TYPES) {
+            Some(self.row_at(TYPES, i))
+        } else {
+            None
+        }
+    }
+
+    // Whether the term m returns many values.
+    #[tactic(auto, using(crate::proofs::Plans::multi_is))]
+    pub fn is_multi(&self, m: usize) -> bool
+        ensures { result ≡ (term_at (env_of self.now) m).multi }
+    {
+        self.flag(self.row_at(TERMS, m), 3)
+    }
+
     // How many variants of type n are indexed, and the row of variant k.
     pub fn variant_count(&self, n: usize) -> usize
         ensures { result ≡ length (variants_in self.now n) }
@@ -134,83 +142,94 @@ impl<'a> Plan<'a> {
         word_in(part(self.index, self.index, n), k) as usize
     }
 
-    // The binding of row r. This and the accessors of other rows are one line each over the `of` of the type that they give.
+    // The binding of row r. This and the accessors of other rows are one line each over the conversion to the type that they give.
     pub fn binding_at(&self, r: usize) -> Binding
         ensures { binding_told result ≡ (binding_of (words_of self.now r)).binding }
     {
-        Binding::of(self.row(r))
+        Binding::from(self.row(r))
+    }
+
+    // The kind of row r of a block.
+    pub fn block_kind(&self, r: usize) -> BlockKind
+        ensures { result ≡ block_kind (nth (words_of self.now r) 1) }
+    {
+        BlockKind::from(self.cell(r, 1))
     }
 
     // Whether row r is a step, and no arm.
+    #[tactic(auto, using(crate::proofs::Made::is_step_by_kind))]
     pub fn is_step(&self, r: usize) -> bool
         ensures { result ≡ ltb (nth (words_of self.now r) 1) 4 }
     {
-        self.cell(r, 1) < 4
+        self.block_kind(r).is_step()
+    }
+
+    // Whether row r is a `return`.
+    #[tactic(auto, using(crate::proofs::Made::is_return_by_kind))]
+    pub fn is_return(&self, r: usize) -> bool
+        ensures { result ≡ eqb (nth (words_of self.now r) 1) 3 }
+    {
+        matches!(self.block_kind(r), BlockKind::Return)
     }
 
     // What row r, a step, does.
     pub fn control_flow_at(&self, r: usize) -> ControlFlow
         ensures { control_flow_told result ≡ control_flow_of (words_of self.now r) }
     {
-        ControlFlow::of(self.row(r))
+        ControlFlow::from(self.row(r))
     }
 
     // What row r, an arm, asks.
     pub fn constraint_at(&self, r: usize) -> Constraint
         ensures { constraint_told result ≡ constraint_of (words_of self.now r) }
     {
-        Constraint::of(self.row(r))
+        Constraint::from(self.row(r))
     }
 
     // The function kind of word k of row r.
     pub fn function_kind_at(&self, r: usize, k: usize) -> FunctionKind
         ensures { function_told result ≡ function_of (nth (words_of self.now r) k) }
     {
-        FunctionKind::of(self.cell(r, k))
+        FunctionKind::from(self.cell(r, k))
     }
 
     // The type of row r; its fields are the list after five words.
     pub fn type_at(&self, r: usize) -> TypeData
         ensures { type_told result (drop 5 (words_of self.now r)) ≡ type_of (words_of self.now r) }
     {
-        TypeData::of(self.row(r))
+        TypeData::from(self.row(r))
     }
 
     // The variant of row r; its fields are the list after three words.
     pub fn variant_at(&self, r: usize) -> Variant
         ensures { variant_told result (drop 3 (words_of self.now r)) ≡ variant_of (words_of self.now r) }
     {
-        Variant::of(self.row(r))
+        Variant::from(self.row(r))
     }
 
     // The term of row r; the types of its arguments are the list after eight words.
     pub fn term_at(&self, r: usize) -> Term
         ensures { term_told result (drop 8 (words_of self.now r)) ≡ term_of (words_of self.now r) }
     {
-        Term::of(self.row(r))
-    }
-
-    // How many fields a shape has with the list of row r, which stands after `header` words.
-    pub fn field_count(&self, r: usize, header: usize, s: Shape) -> usize
-        ensures { result ≡ field_count (fields_told s (drop header (words_of self.now r))) }
-    {
-        s.field_count(self.list_len(r, header))
+        Term::from(self.row(r))
     }
 
     // How many fields the type of row r has: none if it is no struct.
+    #[tactic(auto, using(crate::proofs::Made::fields_numbered))]
     pub fn type_field_count(&self, r: usize) -> usize
         ensures { result ≡ field_count (fields_of (type_of (words_of self.now r))) }
     {
         match self.type_at(r) {
-            TypeData::Struct(_, shape) => self.field_count(r, 5, shape),
+            TypeData::Struct(_, shape) => shape.field_count(self.list(r, 5).len()),
             _ => 0,
         }
     }
 
     // How many fields the variant of row r has.
+    #[tactic(auto, using(crate::proofs::Made::fields_numbered))]
     pub fn variant_field_count(&self, r: usize) -> usize
         ensures { result ≡ field_count (variant_of (words_of self.now r)).fields }
     {
-        self.field_count(r, 3, self.variant_at(r).shape)
+        self.variant_at(r).shape.field_count(self.list(r, 3).len())
     }
 }

@@ -1,11 +1,12 @@
 // Types and terms: `Type` and `Term` of sema.rs.
-ghost use Rattle.std.specs.Prelude.{◌≡◌, ℕ, List, length, drop};
-ghost use Rattle.plan.specs.Lookup.{fields_of, field_count};
-ghost use Rattle.rows.specs.View.{function_of, shape_of, type_of, variant_of, term_of};
-ghost use Rattle.view.specs.Told.{function_told, fields_told, type_told, variant_told, term_told};
+ghost use Rattle.std.specs.Prelude.{◌≡◌, drop};
+ghost use Rattle.rows.specs.View.{declared_of, function_of, type_of, variant_of, term_of};
+ghost use Rattle.view.specs.Kinds.{type_by};
+ghost use Rattle.view.specs.Told.{function_told, declared_told, type_told, variant_told, term_told};
 
 use super::word_in;
 use literal::builtin_type::BuiltinType;
+use rows::kinds::{Shape, TypeKind};
 
 // A term's constructor or extractor.
 #[derive(Clone, Copy)]
@@ -13,13 +14,6 @@ pub enum FunctionKind {
     Absent,
     Internal,
     External { name: usize },
-}
-
-#[derive(Clone, Copy)]
-pub enum Shape {
-    Unit,
-    Named,
-    Tuple,
 }
 
 // What an enum and a struct have in common.
@@ -60,11 +54,12 @@ pub struct Term {
     pub infallible: bool,
 }
 
-impl FunctionKind {
-    // The function kind that a word says: the reader's 0 and 1, or two more than a name's number.
-    pub fn of(word: u32) -> FunctionKind
-        ensures { function_told result ≡ function_of word }
-    {
+// The function kind that a word says: the reader's 0 and 1, or two more than a name's number.
+impl From<u32> for FunctionKind {
+    ghost from_gives = { λ word kind. function_told kind ≡ function_of word };
+
+    #[tactic(auto, unfolding(rows::specs::View::function_of))]
+    fn from(word: u32) -> FunctionKind {
         match word {
             0 => FunctionKind::Absent,
             1 => FunctionKind::Internal,
@@ -75,81 +70,72 @@ impl FunctionKind {
     }
 }
 
-impl Shape {
-    // The shape that a number says.
-    pub fn of(k: u32) -> Shape
-        ensures { (ws : List ℕ) → fields_told result ws ≡ shape_of k ws }
-    {
-        match k {
-            0 => Shape::Unit,
-            1 => Shape::Named,
-            _ => Shape::Tuple,
-        }
-    }
-
-    // How many fields there are with a list of n words.
-    pub fn field_count(self, n: usize) -> usize
-        ensures { (ws : List ℕ) → n ≡ length ws → result ≡ field_count (fields_told self ws) }
-    {
-        match self {
-            Shape::Unit => 0,
-            Shape::Named => n / 2,
-            Shape::Tuple => n,
-        }
+// What an enum's and a struct's words say; the name is a primitive type's too.
+fn declared_in(row: &[u32]) -> Declared
+    ensures { declared_told result ≡ declared_of row.now }
+{
+    Declared {
+        name: word_in(row, 1) as usize,
+        is_extern: word_in(row, 2) == 1,
+        is_nodebug: word_in(row, 3) == 1,
+        pos: word_in(row, 4) as usize,
     }
 }
 
 impl TypeData {
-    // The type of a row's words; its fields are the list after five words.
-    pub fn of(row: &[u32]) -> TypeData
-        ensures { type_told result (drop 5 row.now) ≡ type_of row.now }
+    // The type of a kind, of a row's words: a function of its own, whose arms prove without a lemma.
+    fn of_kind(kind: TypeKind, row: &[u32]) -> TypeData
+        ensures { type_told result (drop 5 row.now) ≡ type_by kind row.now }
     {
-        let kind = word_in(row, 0);
-        let name = word_in(row, 1) as usize;
-        if kind == 0 {
-            return TypeData::Primitive(name);
+        let declared = declared_in(row);
+        match kind {
+            TypeKind::Prim => TypeData::Primitive(declared.name),
+            TypeKind::Enum => TypeData::Enum(declared),
+            TypeKind::Unit => TypeData::Struct(declared, Shape::Unit),
+            TypeKind::Named => TypeData::Struct(declared, Shape::Named),
+            TypeKind::Tuple => TypeData::Struct(declared, Shape::Tuple),
         }
-        let declared = Declared {
-            name,
-            is_extern: word_in(row, 2) == 1,
-            is_nodebug: word_in(row, 3) == 1,
-            pos: word_in(row, 4) as usize,
-        };
-        if kind == 1 {
-            return TypeData::Enum(declared);
-        }
-        TypeData::Struct(declared, Shape::of(kind - 2))
     }
 }
 
-impl Variant {
-    // The variant of a row's words; its fields are the list after three words.
-    #[tactic(auto, unfolding(rows::specs::View::variant_of))]
-    pub fn of(row: &[u32]) -> Variant
-        ensures { variant_told result (drop 3 row.now) ≡ variant_of row.now }
-    {
+// The type of a row's words; its fields are the list after five words.
+impl From<&[u32]> for TypeData {
+    ghost from_gives = { λ row ty. type_told ty (drop 5 row.now) ≡ type_of row.now };
+
+    #[tactic(auto, using(crate::proofs::Made::type_by_kind))]
+    fn from(row: &[u32]) -> TypeData {
+        TypeData::of_kind(TypeKind::from(word_in(row, 0)), row)
+    }
+}
+
+// The variant of a row's words; its fields are the list after three words.
+impl From<&[u32]> for Variant {
+    ghost from_gives = { λ row variant. variant_told variant (drop 3 row.now) ≡ variant_of row.now };
+
+    #[tactic(auto, using(crate::proofs::Made::fields_made), unfolding(rows::specs::View::variant_of))]
+    fn from(row: &[u32]) -> Variant {
         Variant {
             ty: word_in(row, 0) as usize,
             name: word_in(row, 1) as usize,
-            shape: Shape::of(word_in(row, 2)),
+            shape: Shape::from(word_in(row, 2)),
         }
     }
 }
 
-impl Term {
-    // The term of a row's words; the types of its arguments are the list after eight words.
+// The term of a row's words; the types of its arguments are the list after eight words.
+impl From<&[u32]> for Term {
+    ghost from_gives = { λ row term. term_told term (drop 8 row.now) ≡ term_of row.now };
+
     #[tactic(auto, unfolding(rows::specs::View::term_of))]
-    pub fn of(row: &[u32]) -> Term
-        ensures { term_told result (drop 8 row.now) ≡ term_of row.now }
-    {
+    fn from(row: &[u32]) -> Term {
         Term {
             name: word_in(row, 0) as usize,
             pos: word_in(row, 1) as usize,
             ret_ty: word_in(row, 2) as usize,
             multi: word_in(row, 3) == 1,
             partial: word_in(row, 4) == 1,
-            ctor: FunctionKind::of(word_in(row, 5)),
-            xtor: FunctionKind::of(word_in(row, 6)),
+            ctor: FunctionKind::from(word_in(row, 5)),
+            xtor: FunctionKind::from(word_in(row, 6)),
             infallible: word_in(row, 7) == 1,
         }
     }

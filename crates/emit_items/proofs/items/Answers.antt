@@ -11,4 +11,4 @@ unfolding items
 returns c = λ v.
     let p = c.args.plan.now in
     rw (environment_is p.words.now p.rows.now p.tables.now p.bytes.now)
-    (c.generate_header.ensures (plan_of p).options (nopragmas_is p c.row_at.ensures ∙ sym c.flag-nopragmas.ensures) ⟫ₛ c.generate_ctx_trait.ensures ⟫ₛ c.generate_internal_types.ensures v)
+    (c.generate_header.ensures (plan_of p).options (nopragmas_is p c.row_at.ensures.own ∙ sym c.flag-nopragmas.ensures) ⟫ₛ c.generate_ctx_trait.ensures ⟫ₛ c.generate_internal_types.ensures v)

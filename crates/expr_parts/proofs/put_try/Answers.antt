@@ -4,10 +4,10 @@ use Rattle.emits.specs.Sinks.{shows_none, shows_fix}
 use Rattle.emits.specs.Runs.{emits_say, emits_ask}
 use Rattle.expr_parts.proofs.put_try.Goals as goal
 
-pub returns-then-contains : goal.returns-then-contains
+pub returns-then-contains-clause-emits : goal.returns-then-contains-clause-emits
 unfolding odd_pieces odd_piece
-returns-then-contains c = λ env d. emits_ask true (sym c.contains.ensures ∙ c.if-contains.true) (emits_say refl (shows_fix c.put_bytes.ensures shows_none))
+returns-then-contains-clause-emits c = λ env d. emits_ask true (sym c.contains.ensures ∙ c.if-contains.true) (emits_say refl (shows_fix c.put_bytes.ensures shows_none))
 
-pub returns-else-contains : goal.returns-else-contains
+pub returns-else-contains-clause-emits : goal.returns-else-contains-clause-emits
 unfolding odd_pieces odd_piece
-returns-else-contains c = λ env d. emits_ask false (sym c.contains.ensures ∙ c.if-contains.false) (emits_say refl (shows_fix c.put_bytes-else-contains.ensures shows_none))
+returns-else-contains-clause-emits c = λ env d. emits_ask false (sym c.contains.ensures ∙ c.if-contains.false) (emits_say refl (shows_fix c.put_bytes-else-contains.ensures shows_none))

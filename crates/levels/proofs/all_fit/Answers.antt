@@ -10,11 +10,6 @@ pub loop-t-init : goal.loop-t-init
 unfolding tables_of
 loop-t-init c = rw sub-zero
 
-pub table_fits-requires : goal.table_fits-requires
-table_fits-requires c = let a = c.requires.0.ordered c.loop-t.t c.loop-t-test.true in
-    let b = c.requires.0.inside c.loop-t.t c.loop-t-test.true in
-    (rw (c.first_row-from.ensures.0, c.first_row-to.ensures.0) a, rw c.first_row-to.ensures.0 (omega (arith, b)), rw c.first_row-to.ensures.0 (omega (arith, b)))
-
 pub returns-then-not-table_fits : goal.returns-then-not-table_fits
 returns-then-not-table_fits c = let e = cuts_next (cuts c.args.plan.now.words.now c.args.plan.now.rows.now 0 c.args.rows) c.args.plan.now.tables.now c.loop-t.t c.args.tables c.loop-t-test.true in
     let t = cut_rows c.args.plan.now.words.now c.args.plan.now.rows.now c.args.plan.now.tables.now c.args.rows c.loop-t.t _ _ c.first_row-from.ensures.0 c.first_row-to.ensures.0 (rw c.first_row-to.ensures.0 (c.requires.0.inside c.loop-t.t c.loop-t-test.true)) in

@@ -1,6 +1,7 @@
 use Rattle.std.proofs.Common.{◌-◌, ap, sym, ◌∙◌, map, length-set, arith}
 use Rattle.plan.specs.Layout.{nested}
 use Rattle.rows.specs.View.{block_of}
+use Rattle.rows.specs.Kinds.{block_number}
 use Rattle.layout.specs.View.{cut, cuts}
 use Rattle.view.proofs.Laws.{cuts_next}
 use Rattle.levels.proofs.Laws.{stands_stored, nested_deep, nested_not, nested_next, nested_none, stack_start}
@@ -18,9 +19,9 @@ pub returns-then-depth-level : goal.returns-then-depth-level
 returns-then-depth-level c = let e = cuts_next c.args.plan.now.words.now c.args.plan.now.rows.now c.loop-r.r c.args.to c.loop-r-test.true in
     let w = cut c.args.plan.now.words.now c.args.plan.now.rows.now c.loop-r.r in
     elim c.then-depth-level.branch [
-      | then-depth-level-via-then-depth-level t ↦ sym (rw e (nested_deep _ _ w _ _ _ c.word-level.ensures c.cell-kind.ensures (omega arith) t.if-depth-level.true)) ∙ c.loop-r.invariant.nests
+      | then-depth-level-via-then-depth-level t ↦ sym (rw e (nested_deep _ _ w _ _ _ c.word-level.ensures (ap block_number c.block_kind-kind.ensures) (omega arith) t.if-depth-level.true)) ∙ c.loop-r.invariant.nests
       | then-depth-level-via-else-depth-level+then-not-allows t ↦ let not = sym (stands_stored _ _) ∙ rw t.from.ensures at (sym t.allows.ensures ∙ t.if-not-allows.true) in
-          sym (rw e (nested_not _ _ w _ _ _ c.word-level.ensures c.cell-kind.ensures (omega arith) t.if-depth-level.false not)) ∙ c.loop-r.invariant.nests
+          sym (rw e (nested_not _ _ w _ _ _ c.word-level.ensures (ap block_number c.block_kind-kind.ensures) (omega arith) t.if-depth-level.false not)) ∙ c.loop-r.invariant.nests
     ]
 
 pub loop-r-preserved : goal.loop-r-preserved
@@ -30,7 +31,7 @@ loop-r-preserved c = let e = cuts_next c.args.plan.now.words.now c.args.plan.now
     record {
       depth = omega arith;
       room = simp length-set (omega arith);
-      nests = sym (rw e (nested_next _ _ w _ _ _ c.word-level.ensures c.cell-kind.ensures (omega arith) c.if-depth-level.false _ (c.code-in-loop-r.ensures ∙ c.of.ensures) may (omega arith))) ∙ c.loop-r.invariant.nests;
+      nests = sym (rw e (nested_next _ _ w _ _ _ c.word-level.ensures (ap block_number c.block_kind-kind.ensures) (omega arith) c.if-depth-level.false _ (c.code-in-loop-r.ensures ∙ c.from-in-loop-r.ensures) may (omega arith))) ∙ c.loop-r.invariant.nests;
     }
 
 pub returns : goal.returns

@@ -1,7 +1,7 @@
-use Rattle.std.specs.Prelude.{◌≡◌, ◌<◌, ℕ, List}
+use Rattle.std.specs.Prelude.{◌<◌}
 use Rattle.std.proofs.Common.{arith}
 use borrow.Author.Rules.{rules}
-use Rattle.text.specs.Writes.{Writes, writes_then}
+use Rattle.text.specs.Writes.{writes_then}
 use Rattle.refusal.specs.Number.{number}
 use Rattle.programs.specs.Printed.{refused_line}
 use Rattle.programs.proofs.Laws.{line_put, refused_length}
@@ -9,8 +9,6 @@ use Rattle.programs.proofs.put_refusal.Goals as goal
 
 pub returns : goal.returns
 unfolding refused_line
-returns c = λ h.
-    let b : number c.args.refusal < 18446744073709551616 = omega (arith, c.number.ensures) in
-    let q : Writes (refused_line (number c.args.refusal)) c.new-w.result _ = writes_then c.put_bytes.ensures (writes_then (rw c.number.ensures at c.put_decimal.ensures) c.put_byte.ensures) in
-    let e : ◌≡◌ {A = List ℕ} c.out-1.given.0 _ = search (rules, q.buffer) in
-    rw e (line_put c.new-w.ensures.room c.new-w.ensures.start.0 q (refused_length (number c.args.refusal) b) (rw c.new-w.ensures.bytes h))
+returns c =
+    let b : number c.args.refusal < 18446744073709551616 = omega (arith, c.from.ensures) in
+    line_put c.new-w.ensures.room c.new-w.ensures.start.0 (writes_then c.put_bytes.ensures (writes_then (rw c.from.ensures at c.put_decimal.ensures) c.put_byte.ensures)) (refused_length (number c.args.refusal) b) (search rules)

@@ -1,5 +1,5 @@
-use Rattle.std.proofs.Common.{◌≡◌, rules, refl, sym, ◌∙◌, arith}
-use Rattle.std.specs.Prelude.{Ok, Err}
+use Rattle.std.proofs.Common.{◌≡◌, rules, refl, arith}
+use Rattle.std.specs.Prelude.{Err}
 use Rattle.refusals.specs.Answered.{Indexes}
 use Rattle.refusals.proofs.Laws.{says_early, held, says_late, says_held, late}
 use Rattle.refusals.proofs.read_into.Goals as goal

@@ -6,8 +6,13 @@ use Rattle.sema.specs.Signature.{return_kind_told}
 use Rattle.returns.proofs.ReturnLaws.{emits_by_kind}
 use Rattle.returns.proofs.return_line.Goals as goal
 
-pub returns-clause-emits : goal.returns-clause-emits
+pub returns : goal.returns
 unfolding return_line
-returns-clause-emits c = λ f g.
+returns c =
     let k = return_kind_told c.args.body.now.ret_kind in
-    emits_by_kind k "returns.extend(Some(" "return " refl refl c.put_by_kind.ensures ⟫ c.emit_expr.ensures f.indexed f.lower g ⟫ emits_cloned c.contains.result (sym c.contains.ensures) (c.put_clone.ensures _ _) ⟫ emits_by_kind k "));" ";" refl refl c.put_by_kind-2.ensures
+    record {
+      emits = λ d f.
+          emits_by_kind k "returns.extend(Some(" "return " refl refl c.put_by_kind.ensures ⟫ c.emit_expr.ensures.emits d f ⟫ emits_cloned c.contains.result (sym c.contains.ensures) (c.put_clone.ensures _ _)
+          ⟫ emits_by_kind k "));" ";" refl refl c.put_by_kind-2.ensures;
+      same = c.emit_expr.ensures.same;
+    }

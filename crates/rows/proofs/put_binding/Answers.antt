@@ -5,25 +5,25 @@ use Rattle.rows.proofs.put_binding.Goals as goal
 
 pub returns-in_err-kind : goal.returns-in_err-kind
 unfolding binding_words
-returns-in_err-kind c = rw (row_has 4 _ _ c.in_ok-line.ensures.count, ← c.in_ok-line.ensures.line.0, ← c.column.ensures)
+returns-in_err-kind c = rw (row_has 4 _ _ c.in_ok-line.ensures.count, ← c.in_ok-line.ensures.text, ← c.column.ensures)
     (writes_stop _ c.from_residual-in_err-kind.ensures (writes_none (word_none _ c.in_err-kind.ensures)))
 
 pub returns-in_err-push : goal.returns-in_err-push
 unfolding binding_words
-returns-in_err-push c = rw (row_has 4 _ _ c.in_ok-line.ensures.count, ← c.in_ok-line.ensures.line.0, ← c.column.ensures, (kind_read _ _ _ c.in_ok-kind.ensures).0, (kind_read _ _ _ c.in_ok-kind.ensures).1, ← c.number.ensures)
+returns-in_err-push c = rw (row_has 4 _ _ c.in_ok-line.ensures.count, ← c.in_ok-line.ensures.text, ← c.column.ensures, (kind_read _ _ _ c.in_ok-kind.ensures).0, (kind_read _ _ _ c.in_ok-kind.ensures).1, ← c.into.ensures)
     (writes_stop _ c.from_residual-in_err-push.ensures c.in_err-push.ensures)
 
 pub returns-in_err-push_cell : goal.returns-in_err-push_cell
 unfolding binding_words
-returns-in_err-push_cell c = rw (row_has 4 _ _ c.in_ok-line.ensures.count, ← c.in_ok-line.ensures.line.0, ← c.column.ensures, (kind_read _ _ _ c.in_ok-kind.ensures).0, (kind_read _ _ _ c.in_ok-kind.ensures).1, ← c.column-2.ensures, ← c.a.ensures, ← c.number.ensures)
+returns-in_err-push_cell c = rw (row_has 4 _ _ c.in_ok-line.ensures.count, ← c.in_ok-line.ensures.text, ← c.column.ensures, (kind_read _ _ _ c.in_ok-kind.ensures).0, (kind_read _ _ _ c.in_ok-kind.ensures).1, ← c.column-2.ensures, ← c.a.ensures, ← c.into.ensures)
     (c.in_ok-push.ensures ⟫ writes_stop _ c.from_residual-in_err-push_cell.ensures c.in_err-push_cell.ensures)
 
 pub returns-in_err-push_wide : goal.returns-in_err-push_wide
 unfolding binding_words
-returns-in_err-push_wide c = rw (row_has 4 _ _ c.in_ok-line.ensures.count, ← c.in_ok-line.ensures.line.0, ← c.column.ensures, (kind_read _ _ _ c.in_ok-kind.ensures).0, (kind_read _ _ _ c.in_ok-kind.ensures).1, ← c.column-2.ensures, ← c.a.ensures, ← c.column-3.ensures, ← c.b.ensures, ← c.number.ensures)
+returns-in_err-push_wide c = rw (row_has 4 _ _ c.in_ok-line.ensures.count, ← c.in_ok-line.ensures.text, ← c.column.ensures, (kind_read _ _ _ c.in_ok-kind.ensures).0, (kind_read _ _ _ c.in_ok-kind.ensures).1, ← c.column-2.ensures, ← c.a.ensures, ← c.column-3.ensures, ← c.b.ensures, ← c.into.ensures)
     (c.in_ok-push.ensures ⟫ c.in_ok-push_cell.ensures ⟫ writes_stop _ c.from_residual-in_err-push_wide.ensures c.in_err-push_wide.ensures)
 
 pub returns : goal.returns
 unfolding binding_words
-returns c = rw (row_has 4 _ _ c.in_ok-line.ensures.count, ← c.in_ok-line.ensures.line.0, ← c.column.ensures, (kind_read _ _ _ c.in_ok-kind.ensures).0, (kind_read _ _ _ c.in_ok-kind.ensures).1, ← c.column-2.ensures, ← c.a.ensures, ← c.column-3.ensures, ← c.b.ensures, ← c.column-4.ensures, ← c.number.ensures)
+returns c = rw (row_has 4 _ _ c.in_ok-line.ensures.count, ← c.in_ok-line.ensures.text, ← c.column.ensures, (kind_read _ _ _ c.in_ok-kind.ensures).0, (kind_read _ _ _ c.in_ok-kind.ensures).1, ← c.column-2.ensures, ← c.a.ensures, ← c.column-3.ensures, ← c.b.ensures, ← c.column-4.ensures, ← c.into.ensures)
     (c.in_ok-push.ensures ⟫ c.in_ok-push_cell.ensures ⟫ c.in_ok-push_wide.ensures ⟫ c.put_list.ensures)

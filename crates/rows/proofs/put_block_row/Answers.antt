@@ -5,30 +5,30 @@ use Rattle.rows.proofs.put_block_row.Goals as goal
 
 pub returns-in_err-push_cell : goal.returns-in_err-push_cell
 unfolding block_words
-returns-in_err-push_cell c = rw (row_has 5 _ _ c.in_ok-line.ensures.count, ← c.in_ok-line.ensures.line.0, ← c.column.ensures)
+returns-in_err-push_cell c = rw (row_has 5 _ _ c.in_ok-line.ensures.count, ← c.in_ok-line.ensures.text, ← c.column.ensures)
     (writes_stop _ c.from_residual-in_err-push_cell.ensures c.in_err-push_cell.ensures)
 
 pub returns-in_err-kind : goal.returns-in_err-kind
 unfolding block_words
-returns-in_err-kind c = rw (row_has 5 _ _ c.in_ok-line.ensures.count, ← c.in_ok-line.ensures.line.0, ← c.column.ensures, ← c.column-2.ensures)
+returns-in_err-kind c = rw (row_has 5 _ _ c.in_ok-line.ensures.count, ← c.in_ok-line.ensures.text, ← c.column.ensures, ← c.column-2.ensures)
     (c.in_ok-push_cell.ensures ⟫ writes_stop _ c.from_residual-in_err-kind.ensures (writes_none (word_none _ c.in_err-kind.ensures)))
 
 pub returns-in_err-push : goal.returns-in_err-push
 unfolding block_words
-returns-in_err-push c = rw (row_has 5 _ _ c.in_ok-line.ensures.count, ← c.in_ok-line.ensures.line.0, ← c.column.ensures, ← c.column-2.ensures, (kind_read _ _ _ c.in_ok-kind.ensures).0, (kind_read _ _ _ c.in_ok-kind.ensures).1, ← c.number.ensures)
+returns-in_err-push c = rw (row_has 5 _ _ c.in_ok-line.ensures.count, ← c.in_ok-line.ensures.text, ← c.column.ensures, ← c.column-2.ensures, (kind_read _ _ _ c.in_ok-kind.ensures).0, (kind_read _ _ _ c.in_ok-kind.ensures).1, ← c.into.ensures)
     (c.in_ok-push_cell.ensures ⟫ writes_stop _ c.from_residual-in_err-push.ensures c.in_err-push.ensures)
 
 pub returns-in_err-push_cell-2 : goal.returns-in_err-push_cell-2
 unfolding block_words
-returns-in_err-push_cell-2 c = rw (row_has 5 _ _ c.in_ok-line.ensures.count, ← c.in_ok-line.ensures.line.0, ← c.column.ensures, ← c.column-2.ensures, (kind_read _ _ _ c.in_ok-kind.ensures).0, (kind_read _ _ _ c.in_ok-kind.ensures).1, ← c.column-3.ensures, ← c.a.ensures, ← c.number.ensures)
+returns-in_err-push_cell-2 c = rw (row_has 5 _ _ c.in_ok-line.ensures.count, ← c.in_ok-line.ensures.text, ← c.column.ensures, ← c.column-2.ensures, (kind_read _ _ _ c.in_ok-kind.ensures).0, (kind_read _ _ _ c.in_ok-kind.ensures).1, ← c.column-3.ensures, ← c.a.ensures, ← c.into.ensures)
     (c.in_ok-push_cell.ensures ⟫ c.in_ok-push.ensures ⟫ writes_stop _ c.from_residual-in_err-push_cell-2.ensures c.in_err-push_cell-2.ensures)
 
 pub returns-in_err-push_wide : goal.returns-in_err-push_wide
 unfolding block_words
-returns-in_err-push_wide c = rw (row_has 5 _ _ c.in_ok-line.ensures.count, ← c.in_ok-line.ensures.line.0, ← c.column.ensures, ← c.column-2.ensures, (kind_read _ _ _ c.in_ok-kind.ensures).0, (kind_read _ _ _ c.in_ok-kind.ensures).1, ← c.column-3.ensures, ← c.a.ensures, ← c.column-4.ensures, ← c.b.ensures, ← c.number.ensures)
+returns-in_err-push_wide c = rw (row_has 5 _ _ c.in_ok-line.ensures.count, ← c.in_ok-line.ensures.text, ← c.column.ensures, ← c.column-2.ensures, (kind_read _ _ _ c.in_ok-kind.ensures).0, (kind_read _ _ _ c.in_ok-kind.ensures).1, ← c.column-3.ensures, ← c.a.ensures, ← c.column-4.ensures, ← c.b.ensures, ← c.into.ensures)
     (c.in_ok-push_cell.ensures ⟫ c.in_ok-push.ensures ⟫ c.in_ok-push_cell-2.ensures ⟫ writes_stop _ c.from_residual-in_err-push_wide.ensures c.in_err-push_wide.ensures)
 
 pub returns : goal.returns
 unfolding block_words
-returns c = rw (row_has 5 _ _ c.in_ok-line.ensures.count, ← c.in_ok-line.ensures.line.0, ← c.column.ensures, ← c.column-2.ensures, (kind_read _ _ _ c.in_ok-kind.ensures).0, (kind_read _ _ _ c.in_ok-kind.ensures).1, ← c.column-3.ensures, ← c.a.ensures, ← c.column-4.ensures, ← c.b.ensures, ← c.column-5.ensures, ← c.list.ensures, ← c.number.ensures)
+returns c = rw (row_has 5 _ _ c.in_ok-line.ensures.count, ← c.in_ok-line.ensures.text, ← c.column.ensures, ← c.column-2.ensures, (kind_read _ _ _ c.in_ok-kind.ensures).0, (kind_read _ _ _ c.in_ok-kind.ensures).1, ← c.column-3.ensures, ← c.a.ensures, ← c.column-4.ensures, ← c.b.ensures, ← c.column-5.ensures, ← c.list.ensures, ← c.into.ensures)
     (c.in_ok-push_cell.ensures ⟫ c.in_ok-push.ensures ⟫ c.in_ok-push_cell-2.ensures ⟫ c.in_ok-push_wide.ensures ⟫ c.put_list.ensures)

@@ -1,6 +1,6 @@
-use mathlib.Core.Path.{ap, ◌∙◌}
-use Rattle.plan.specs.Refusal.{every, bound_below}
-use Rattle.rows.specs.View.{pattern_of, patterns_in}
+use mathlib.Core.Path.{◌∙◌}
+use Rattle.plan.specs.Refusal.{bound_below}
+use Rattle.rows.specs.View.{pattern_of}
 use Rattle.std.proofs.Common.{rules}
 use Rattle.std.proofs.lemmas.Iterator.{YieldsList-from_slice}
 use Rattle.std.proofs.lemmas.Iterator.Search.{all_from_yields_List}
@@ -11,4 +11,4 @@ use Rattle.checks.proofs.list.patterns_below.Goals as goal
 pub returns : goal.returns
 returns c =
     all_from_yields_List (λ q. bound_below c.args.n (pattern_of q)) _ _ _ c.all.ensures.ran (YieldsList-from_slice _ c.iter.ensures.rest) (λ x b q k. search rules)
-    ∙ every_list _ _ ∙ every_pattern c.args.n _ ∙ ap (λ l. every (bound_below c.args.n) (patterns_in l)) c.list_of.ensures
+    ∙ every_list _ _ ∙ every_pattern c.args.n _

@@ -1,7 +1,7 @@
 use mathlib.Core.Path.{◌≡◌}
 use mathlib.Core.Bool.{false}
 use Rattle.codegen.specs.Terms.{ends_in_return}
-use Rattle.constructors.specs.Ending.{rows_in}
+use Rattle.row_frames.specs.Rows.{rows_in}
 use Rattle.constructors.proofs.ending.ends_in_return.Given as goal
 
 -- the rows that are left end as all do

@@ -11,4 +11,4 @@ use Rattle.emit_items.proofs.internal_types.all_unit.Goals as goal
 pub returns : goal.returns
 returns c = λ v.
     all_from_yields_List (λ k. is_unit (variant_at (env_of c.args.plan.now) c.args.ty.0 k).fields) _ _ _ c.all.ensures.ran (YieldsList-from_range _ _ _ refl refl) (λ x b q k. search (rules, v))
-    ∙ unit_all (env_of c.args.plan.now) c.args.ty.0 _ (c.variant_count.ensures v)
+    ∙ unit_all (env_of c.args.plan.now) c.args.ty.0 _ (c.variant_count.ensures.own v)

@@ -7,25 +7,24 @@ use Rattle.emit_items.proofs.internal_types.internal_type.Goals as goal
 
 pub returns-in-Builtin : goal.returns-in-Builtin
 unfolding internal_type
-returns-in-Builtin c = λ v. elim c.in-Builtin.is [ inl w ↦ rw (type_as _ c.data.ensures w.1) shows_none | inr w ↦ rw (type_as _ c.data.ensures w.1) shows_none ]
+returns-in-Builtin c = λ v. elim c.in-Builtin.is [ inl w ↦ rw (type_as _ c.data-data.ensures w.1) shows_none | inr w ↦ rw (type_as _ c.data-data.ensures w.1) shows_none ]
 
 pub returns-then-not-d : goal.returns-then-not-d
 unfolding internal_type
 returns-then-not-d c = λ v.
     let intern = not-true _ c.if-not-d.true in
-    rw (type_as _ c.data.ensures c.in-Enum.is, intern) (rw intern at (c.enum_type.ensures v))
+    rw (type_as _ c.data-data.ensures c.in-Enum.is, intern) (rw intern at (c.enum_type.ensures v))
 
 pub returns-else-not-d : goal.returns-else-not-d
 unfolding internal_type
-returns-else-not-d c = λ v. rw (type_as _ c.data.ensures c.in-Enum.is, not-false _ c.if-not-d.false) shows_none
+returns-else-not-d c = λ v. rw (type_as _ c.data-data.ensures c.in-Enum.is, not-false _ c.if-not-d.false) shows_none
 
 pub returns-then-not-d-2 : goal.returns-then-not-d-2
 unfolding internal_type
 returns-then-not-d-2 c = λ v.
-    let struct = type_as _ c.data.ensures c.in-Struct.is in
     let intern = not-true _ c.if-not-d-2.true in
-    rw (struct, intern) (rw (intern, rw struct at c.fields.ensures) at c.struct_type.ensures)
+    rw (type_as _ c.data-data.ensures c.in-Struct.is, intern) (rw intern at c.struct_type.ensures)
 
 pub returns-else-not-d-2 : goal.returns-else-not-d-2
 unfolding internal_type
-returns-else-not-d-2 c = λ v. rw (type_as _ c.data.ensures c.in-Struct.is, not-false _ c.if-not-d-2.false) shows_none
+returns-else-not-d-2 c = λ v. rw (type_as _ c.data-data.ensures c.in-Struct.is, not-false _ c.if-not-d-2.false) shows_none

@@ -9,5 +9,5 @@ use Rattle.emit_items.proofs.internal_types.named_fields.Given as goal
 
 abbrev pub invariant-loop-i : goal.invariant-loop-i
 invariant-loop-i l =
-    (fs : List Field) → fields_read l.plan l.f ≡ named fs
+    (fs : List Field) → fields_read l.f ≡ named fs
     → Left (env_of l.plan) 0 (named_fields l.allow (suc (depth l.allow)) fs) l.initial.w (named_fields l.allow (suc (depth l.allow)) (drop l.i fs)) l.w

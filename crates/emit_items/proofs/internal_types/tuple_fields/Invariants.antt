@@ -9,5 +9,5 @@ use Rattle.emit_items.proofs.internal_types.tuple_fields.Given as goal
 
 abbrev pub invariant-loop-i : goal.invariant-loop-i
 invariant-loop-i l =
-    (ns : List ℕ) → fields_read l.plan l.f ≡ tuple ns
+    (ns : List ℕ) → fields_read l.f ≡ tuple ns
     → Left (env_of l.plan) 0 (join (tuple_fields l.allow ns)) l.initial.w (joined l.i (tuple_fields l.allow (drop l.i ns))) l.w

@@ -6,5 +6,5 @@ use Rattle.emit_items.proofs.internal_types.variant_line.Goals as goal
 pub returns : goal.returns
 unfolding render bytes indent spaces
 returns c = λ v.
-    let variant = c.variant-v.ensures v in
+    let variant = c.variant-v.ensures.own v in
     rw (← variant.0, ← variant.1) (shows_first 1 c.put_bytes.ensures (shows_sym c.put_text.ensures (c.generate_fields.ensures ⟫ₛ shows_fix c.put_bytes-2.ensures shows_none)))

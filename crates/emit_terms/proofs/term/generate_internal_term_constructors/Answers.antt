@@ -1,5 +1,4 @@
-use Rattle.std.proofs.Common.{◌≡◌, ◌+◌, ◌*◌, arith}
-use Rattle.checks.proofs.Tests.{terms_count}
+use Rattle.std.proofs.Common.{arith}
 use Rattle.emit_terms.specs.Term.{terms_start, terms_next, terms_done}
 use Rattle.emit_terms.proofs.term.generate_internal_term_constructors.Goals as goal
 
@@ -7,9 +6,7 @@ pub loop-i-init : goal.loop-i-init
 loop-i-init c = λ v f. terms_start f
 
 pub loop-i-preserved : goal.loop-i-preserved
-loop-i-preserved c = λ v f.
-    let next : 7 + 3 * c.loop-i.i + 3 ≡ 7 + 3 * (c.loop-i.i + 1) = omega arith in
-    rw next at (terms_next (c.loop-i.invariant v f) (omega (arith, terms_count c.args.plan.now)) (c.emit_term.ensures _ v c.read-options.ensures))
+loop-i-preserved c = λ v f. terms_next (c.loop-i.invariant v f) (omega (arith, c.generated_count-i-end.ensures.count)) c.generated_tables.ensures (c.emit_term.ensures _ v c.read-options.ensures)
 
 pub returns : goal.returns
-returns c = λ v f. terms_done (c.loop-i.invariant v f) (omega (arith, terms_count c.args.plan.now))
+returns c = λ v f. terms_done (c.loop-i.invariant v f) (omega (arith, c.generated_count-i-end.ensures.count))

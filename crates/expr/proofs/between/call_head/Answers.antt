@@ -7,4 +7,4 @@ use Rattle.expr_parts.proofs.Laws.{odd_called}
 use Rattle.expr.proofs.between.call_head.Goals as goal
 
 pub returns : goal.returns
-returns c = λ d. c.mark_result.ensures d ⟫ emits_say (odd_called (function_told c.args.sig.func) c.args.sig.is_extractor (term_at (env_of c.args.plan.now) c.args.sig.term.0)) (c.put_full_name.ensures d ⟫ₛ shows_fix c.put_bytes.ensures shows_none)
+returns c = λ d. c.mark_result.ensures.emits d ⟫ emits_say (odd_called (function_told c.args.sig.func) c.args.sig.is_extractor (term_at (env_of c.args.plan.now) c.args.sig.term.0)) (c.put_full_name.ensures d ⟫ₛ shows_fix c.put_bytes.ensures shows_none)

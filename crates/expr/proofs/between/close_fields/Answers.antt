@@ -1,9 +1,8 @@
-use Rattle.std.proofs.Common.{◌∙◌}
+use Rattle.std.proofs.Common.{sym, ◌∙◌}
 use Rattle.codegen.specs.Piece.{indent}
-use Rattle.expr_parts.specs.Sources.{sources_in}
 use Rattle.expr.proofs.Turns.{emits_closed}
 use Rattle.expr.proofs.between.close_fields.Goals as goal
 
-pub returns-then-list_len-ne0 : goal.returns-then-list_len-ne0
+pub returns-then-not-is_empty : goal.returns-then-not-is_empty
 unfolding indent
-returns-then-list_len-ne0 c = λ env d₀ d m g. emits_closed d (sources_in c.args.plan.now c.args.row) (λ z. c.if-list_len-ne0.true (c.list_len.ensures ∙ z)) c.put_byte.ensures (rw (← g) c.put_indent.ensures) c.put_bytes.ensures
+returns-then-not-is_empty c = λ env d₀ d m g. emits_closed d c.args.sources.now (sym c.is_empty.ensures ∙ c.if-not-is_empty.true) c.put_byte.ensures (rw (← g) c.put_indent.ensures) c.put_bytes.ensures

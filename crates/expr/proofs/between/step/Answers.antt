@@ -14,12 +14,12 @@ returns-then-contains-clause-written c = λ v d₀ d g dp. rw (sym c.contains.en
 
 pub returns-clause-source : goal.returns-clause-source
 returns-clause-source c =
-    let p = c.args.plan.now in
-    let r = c.binding_row-row.result in
-    step_of p (set_of c.args.bound.now) c.args.t c.args.depth c.args.b c.args.i c.put_next.new.w (words_of p r) (binding_is p c.args.t c.args.b r c.binding_row-row.ensures) c.binding_at.ensures (sym c.contains.ensures ∙ c.if-contains.false) c.put_next.result c.put_next.ensures.source
+    let p = c.args.scope.now.plan.now in
+    let r = c.row_at-row.result in
+    step_of p (set_of c.args.scope.now.bound.now) c.args.scope.now.bindings c.args.depth c.args.b c.args.i c.put_next.new.w (words_of p r) (binding_is p c.args.scope.now.bindings c.args.b r c.row_at-row.ensures.own) c.binding_at.ensures (sym c.contains.ensures ∙ c.if-contains.false) c.put_next.result (rw c.list.ensures at c.put_next.ensures.source)
 
 pub returns-clause-written : goal.returns-clause-written
 returns-clause-written c =
-    let p = c.args.plan.now in
-    let r = c.binding_row-row.result in
-    λ v d₀ d g dp. emits_step (words_of p r) (binding_is p c.args.t c.args.b r c.binding_row-row.ensures) c.binding_at.ensures (set_of c.args.bound.now) c.args.b d c.args.i c.args.given (sym c.contains.ensures ∙ c.if-contains.false) (c.put_first.ensures v d₀ ⟫ c.put_next.ensures.written v d₀ d g dp)
+    let p = c.args.scope.now.plan.now in
+    let r = c.row_at-row.result in
+    λ v d₀ d g dp. emits_step (words_of p r) (binding_is p c.args.scope.now.bindings c.args.b r c.row_at-row.ensures.own) c.binding_at.ensures (set_of c.args.scope.now.bound.now) c.args.b d c.args.i c.args.given (sym c.contains.ensures ∙ c.if-contains.false) (rw c.list.ensures at (c.put_first.ensures v d₀) ⟫ rw c.list.ensures at (c.put_next.ensures.written v d₀ d g dp))

@@ -23,20 +23,20 @@ source_holds-loop-word-init t c = left_start
 
 pub source_holds-loop-word-preserved-then-b-q : goal.source_holds-loop-word-preserved-then-b-q
 source_holds-loop-word-preserved-then-b-q t c =
-    let here = word_at (sources_yielded c.args.bindings.now c.args.b (c.row-row.ensures ∙ c.row_at.ensures) (YieldsList-from_skip 6 (YieldsList-from_slice c.row-row.result.now cc) cc)) c.loop-word.yielded _ c.loop-word.yielded_by _ _ c.in-Some.word c.in-Some.is c.next.ensures.steps in
+    let here = word_at (sources_yielded c.args.bindings.now c.args.b (c.row-row.ensures ∙ c.row_at.ensures.own) (YieldsList-from_skip 6 (YieldsList-from_slice c.row-row.result.now cc) cc)) c.loop-word.yielded _ c.loop-word.yielded_by _ _ c.in-Some.word c.in-Some.is c.next.ensures.steps in
     rw (length_push c.loop-word.yielded c.in-Some.word) (left_lower here.0 c.loop-word.invariant (rw here.1 at c.if-b-q.true))
 
 pub source_holds-returns-then-expr_holds : goal.source_holds-returns-then-expr_holds
 source_holds-returns-then-expr_holds t c =
-    let here = word_at (sources_yielded c.args.bindings.now c.args.b (c.row-row.ensures ∙ c.row_at.ensures) (YieldsList-from_skip 6 (YieldsList-from_slice c.row-row.result.now cc) cc)) c.loop-word.yielded _ c.loop-word.yielded_by _ _ c.in-Some.word c.in-Some.is c.next.ensures.steps in
+    let here = word_at (sources_yielded c.args.bindings.now c.args.b (c.row-row.ensures ∙ c.row_at.ensures.own) (YieldsList-from_skip 6 (YieldsList-from_slice c.row-row.result.now cc) cc)) c.loop-word.yielded _ c.loop-word.yielded_by _ _ c.in-Some.word c.in-Some.is c.next.ensures.steps in
     left_found here.0 c.loop-word.invariant (rw (here.1, c.if-expr_holds.true) at c.expr_holds.ensures)
 
 pub source_holds-loop-word-preserved : goal.source_holds-loop-word-preserved
 source_holds-loop-word-preserved t c =
-    let here = word_at (sources_yielded c.args.bindings.now c.args.b (c.row-row.ensures ∙ c.row_at.ensures) (YieldsList-from_skip 6 (YieldsList-from_slice c.row-row.result.now cc) cc)) c.loop-word.yielded _ c.loop-word.yielded_by _ _ c.in-Some.word c.in-Some.is c.next.ensures.steps in
+    let here = word_at (sources_yielded c.args.bindings.now c.args.b (c.row-row.ensures ∙ c.row_at.ensures.own) (YieldsList-from_skip 6 (YieldsList-from_slice c.row-row.result.now cc) cc)) c.loop-word.yielded _ c.loop-word.yielded_by _ _ c.in-Some.word c.in-Some.is c.next.ensures.steps in
     rw (length_push c.loop-word.yielded c.in-Some.word) (left_next here.0 c.loop-word.invariant (rw (here.1, c.if-expr_holds.false) at c.expr_holds.ensures))
 
 pub source_holds-returns : goal.source_holds-returns
 source_holds-returns t c =
-    let end = YieldsList-end (sources_yielded c.args.bindings.now c.args.b (c.row-row.ensures ∙ c.row_at.ensures) (YieldsList-from_skip 6 (YieldsList-from_slice c.row-row.result.now cc) cc)) c.loop-word.yielded _ c.loop-word.yielded_by _ _ c.in-None.is c.next.ensures.steps in
+    let end = YieldsList-end (sources_yielded c.args.bindings.now c.args.b (c.row-row.ensures ∙ c.row_at.ensures.own) (YieldsList-from_skip 6 (YieldsList-from_slice c.row-row.result.now cc) cc)) c.loop-word.yielded _ c.loop-word.yielded_by _ _ c.in-None.is c.next.ensures.steps in
     left_none (omega (arith, end.1)) c.loop-word.invariant

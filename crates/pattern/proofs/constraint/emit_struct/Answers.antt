@@ -7,4 +7,4 @@ use Rattle.pattern.proofs.constraint.emit_struct.Goals as goal
 
 pub returns : goal.returns
 unfolding emit_constraint odd_pieces odd_piece
-returns c = λ q. emits_say refl (shows_fix c.put_bytes.ensures (c.type_name.ensures c.args.depth)) ⟫ rw c.fields.ensures at c.emit_fields.ensures
+returns c = λ q. emits_say refl (shows_fix c.put_bytes.ensures (c.type_name.ensures c.args.depth)) ⟫ rw c.fields.ensures at c.emit_fields.ensures.emits

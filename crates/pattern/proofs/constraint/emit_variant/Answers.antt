@@ -7,4 +7,4 @@ use Rattle.pattern.proofs.constraint.emit_variant.Goals as goal
 
 pub returns : goal.returns
 unfolding emit_constraint odd_pieces odd_piece
-returns c = λ v q. emits_say refl (shows_fix c.put_bytes.ensures (rw (c.variant-variant.ensures v).0 at (c.variant_name.ensures c.args.depth))) ⟫ rw (c.variant-variant.ensures v).1 at c.emit_fields.ensures
+returns c = λ v q. emits_say refl (shows_fix c.put_bytes.ensures (rw (c.variant-variant.ensures.own v).0 at (c.variant_name.ensures c.args.depth))) ⟫ rw (c.variant-variant.ensures.own v).1 at c.emit_fields.ensures.emits

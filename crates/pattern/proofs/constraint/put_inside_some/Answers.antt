@@ -1,4 +1,5 @@
-use Rattle.std.proofs.Common.{◌≡◌, cond, refl, sym, arith, rules}
+use Rattle.std.proofs.Common.{◌≡◌, cond, refl, sym, ◌∙◌, length, eqb-true, arith, rules}
+use Rattle.std.proofs.lemmas.Bool.{eqb-false}
 use Rattle.codegen.specs.Piece.{odd_piece, odd_pieces}
 use Rattle.codegen.specs.Writer.{insert}
 use Rattle.codegen.specs.Pattern.{inside_some}
@@ -12,18 +13,23 @@ use Rattle.pattern.proofs.Laws.{emits_given}
 use Rattle.pattern.proofs.constraint.put_inside_some.Goals as goal
 use Rattle.pattern.proofs.constraint.put_inside_some.Goals.{then-contains, else-contains}
 
-pub returns-then-row-le7 : goal.returns-then-row-le7
+pub returns-then-is_empty : goal.returns-then-is_empty
 unfolding inside_some
-returns-then-row-le7 c = λ env d. rw (← c.row-row.ensures, patterns_end c.row-row.result.now 7 c.if-row-le7.true) emits_nothing
+returns-then-is_empty c =
+    let none : length c.list-list.result.now ≡ 0 = eqb-true (length c.list-list.result.now) 0 (sym c.is_empty.ensures ∙ c.if-is_empty.true) in
+    λ env d. rw (← c.list-list.ensures, patterns_end c.list-list.result.now 0 (omega (arith, none))) emits_nothing
 
 pub returns-in_default : goal.returns-in_default
 unfolding inside_some odd_pieces odd_piece
-returns-in_default c = λ env d. rw (← c.row-row.ensures, patterns_cons c.row-row.result.now 7 (omega arith), ← c.pattern_of.ensures, c.in_default.is) (emits_say refl (shows_fix c.put_bytes.ensures shows_none))
+returns-in_default c =
+    let some = eqb-false (length c.list-list.result.now) 0 (sym c.is_empty.ensures ∙ c.if-is_empty.false) in
+    λ env d. rw (← c.list-list.ensures, patterns_cons c.list-list.result.now 0 (omega (arith, some)), ← c.pattern_of.ensures, c.in_default.is) (emits_say refl (shows_fix c.put_bytes.ensures shows_none))
 
 pub returns : goal.returns
 unfolding inside_some odd_pieces odd_piece
 returns c =
     let r = set_of c.args.refs.now in
     let marked : set_of c.if-contains.refs ≡ cond c.contains.result (insert r c.in-Some.b) r = elim c.if-contains.branch [ then-contains w ↦ search rules | else-contains w ↦ search rules ] in
-    λ env d. rw (← c.row-row.ensures, patterns_cons c.row-row.result.now 7 (omega arith), ← c.pattern_of.ensures, c.in-Some.is)
+    let some = eqb-false (length c.list-list.result.now) 0 (sym c.is_empty.ensures ∙ c.if-is_empty.false) in
+    λ env d. rw (← c.list-list.ensures, patterns_cons c.list-list.result.now 0 (omega (arith, some)), ← c.pattern_of.ensures, c.in-Some.is)
     (emits_given c.contains.result (sym c.contains.ensures) marked ⟫ emits_say refl (shows_new_put c.put_var.ensures shows_none))

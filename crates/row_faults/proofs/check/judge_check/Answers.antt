@@ -2,14 +2,11 @@ use Rattle.std.proofs.Common.{refl}
 use Rattle.row_faults.proofs.Laws.{judges_equal, judges_return}
 use Rattle.row_faults.proofs.check.judge_check.Goals as goal
 
-pub returns-in-Match : goal.returns-in-Match
-returns-in-Match c = rw (← c.control_flow_at.ensures, c.in-Match.is) c.judge_match.ensures
-
 pub returns-in-Equal : goal.returns-in-Equal
-returns-in-Equal c = rw (← c.control_flow_at.ensures, c.in-Equal.is) (judges_equal _ _ _ _ c.expr_calls-second.ensures.ready refl c.expr_calls-first.ensures.found c.expr_calls-second.ensures.found refl refl refl)
+returns-in-Equal c = rw (← c.control_flow_at.ensures, c.in-Equal.is) (judges_equal _ _ _ _ c.expr_calls-first.ensures.names c.expr_calls-second.ensures.names refl c.expr_calls-first.ensures.found c.expr_calls-second.ensures.found refl refl refl)
 
 pub returns-in-Loop : goal.returns-in-Loop
 returns-in-Loop c = rw (← c.control_flow_at.ensures, c.in-Loop.is) (c.judge_loop.ensures _ _)
 
 pub returns-in-Return : goal.returns-in-Return
-returns-in-Return c = rw (← c.control_flow_at.ensures, c.in-Return.is) (judges_return _ _ _ _ c.expr_calls-found.ensures.ready refl c.expr_calls-found.ensures.found refl refl)
+returns-in-Return c = rw (← c.control_flow_at.ensures, c.in-Return.is) (judges_return _ _ _ _ c.expr_calls-found.ensures.names refl c.expr_calls-found.ensures.found refl refl)

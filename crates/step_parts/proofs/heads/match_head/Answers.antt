@@ -5,6 +5,9 @@ use Rattle.emits.specs.Sinks.{shows_none, shows_fix, shows_brace}
 use Rattle.emits.specs.Runs.{emits_say, ◌⟫◌}
 use Rattle.step_parts.proofs.heads.match_head.Goals as goal
 
-pub returns-clause-emits : goal.returns-clause-emits
+pub returns : goal.returns
 unfolding match_head odd_pieces odd_piece
-returns-clause-emits c = λ f g. emits_say refl (shows_fix c.put_bytes.ensures shows_none) ⟫ c.emit_source.ensures f.indexed f.lower g ⟫ emits_say refl (shows_brace c.put_bytes-2.ensures shows_none)
+returns c = record {
+  emits = λ d f. emits_say refl (shows_fix c.put_bytes.ensures shows_none) ⟫ c.emit_source.ensures.emits d f ⟫ emits_say refl (shows_brace c.put_bytes-2.ensures shows_none);
+  same = c.emit_source.ensures.same;
+}

@@ -11,4 +11,4 @@ pub returns : goal.returns
 unfolding emit_arm odd_pieces odd_piece
 returns c = own_opening (set_of c.args.context.now.is_bound) c.put_indent.ensures
     (λ d f. (rw c.constraint_at-k.ensures at (c.emit_constraint.ensures f.indexed)) ⟫ emits_say refl (shows_fix c.put_bytes.ensures (shows_brace c.put_bytes-2.ensures shows_none)))
-    c.put_byte.ensures c.bind_all.ensures refl
+    c.put_byte.ensures c.bind_all.ensures.names refl

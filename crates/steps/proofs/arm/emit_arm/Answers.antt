@@ -3,9 +3,6 @@ use Rattle.codegen.specs.Block.{emit_arm}
 use Rattle.steps.proofs.CheckLaws.{own_nothing}
 use Rattle.steps.proofs.arm.emit_arm.Goals as goal
 
-pub returns-in-ArmsOf : goal.returns-in-ArmsOf
-returns-in-ArmsOf c = rw c.in-ArmsOf.is c.arm_of.ensures
-
 pub returns-in-OneArm : goal.returns-in-OneArm
 unfolding emit_arm
 returns-in-OneArm c = ⊎_elim (λ e. rw e own_nothing) (⊎_elim (λ e. rw e own_nothing) (λ e. rw e own_nothing)) c.in-OneArm.is

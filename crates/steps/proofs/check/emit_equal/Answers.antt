@@ -6,4 +6,4 @@ use Rattle.steps.proofs.check.emit_equal.Goals as goal
 
 pub returns : goal.returns
 unfolding emit_check
-returns c = λ l rs. own_opening (set_of c.args.context.now.is_bound) c.put_indent.ensures (λ d f. c.equal_head.ensures.emits f d.0 d.1) c.put_byte.ensures (ap set_of c.equal_head.ensures.same.bound) c.equal_head.ensures.same.nesting
+returns c = λ l rs. own_opening (set_of c.args.context.now.is_bound) c.put_indent.ensures c.equal_head.ensures.emits c.put_byte.ensures (ap set_of c.equal_head.ensures.same.bound) c.equal_head.ensures.same.nesting

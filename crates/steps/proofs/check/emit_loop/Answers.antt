@@ -9,5 +9,5 @@ use Rattle.steps.proofs.check.emit_loop.Goals as goal
 pub returns : goal.returns
 unfolding emit_check
 returns c = λ l rs.
-    let source = loop_source c.args.body.now c.args.r c.binding_row-row.result c.binding_row-row.ensures in
-    own_opening (set_of c.args.context.now.is_bound) c.put_indent.ensures (λ d f. emits_say (odd_loop _ _) (rw (c.list_word-q.ensures, source) at (c.loop_head.ensures (env_in c.args.body.now)))) c.put_byte.ensures c.insert.ensures refl
+    let source = loop_source c.args.body.now c.args.r c.row_at-row.result c.row_at-row.ensures.own in
+    own_opening (set_of c.args.context.now.is_bound) c.put_indent.ensures (λ d f. emits_say (odd_loop _ _) (rw (c.word-q.ensures, source) at (c.loop_head.ensures (env_in c.args.body.now)))) c.put_byte.ensures c.insert.ensures.marks refl

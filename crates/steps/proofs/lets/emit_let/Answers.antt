@@ -6,8 +6,8 @@ use Rattle.steps.proofs.lets.emit_let.Goals as goal
 pub returns : goal.returns
 unfolding lets
 returns c = record {
-  lines = λ d f i fs t. lines_words t.depth c.put_indent.ensures (c.let_line.ensures.emits f d) c.put_byte.ensures;
+  lines = λ d f i fs t. lines_words t.depth c.put_indent.ensures (c.let_line.ensures.emits d f) c.put_byte.ensures;
   frame = λ r. refl;
-  bound = λ r. rw c.let_line.ensures.same.bound at c.insert.ensures;
+  bound = λ r. rw c.let_line.ensures.same.bound at c.insert.ensures.marks;
   nesting = c.let_line.ensures.same.nesting;
 }

@@ -3,15 +3,11 @@ use mathlib.Core.Path.{refl, ◌∙◌}
 use mathlib.Core.List.{[], ◌∷◌}
 use native.Mathlib.Omega.{arith}
 use lib.ListN.{get_or, length-set}
-use Rattle.tokens.proofs.Laws.{cutting_none, cutting_turn, cutting_last, cutting_more, space_counts}
+use Rattle.tokens.proofs.Laws.{cutting_none, cutting_turn, cutting_more, space_counts}
 use Rattle.tokens.proofs.Line.cut.Goals as goal
 
 pub loop-k-init : goal.loop-k-init
 loop-k-init c = (omega arith, omega arith, refl, cutting_none c.args.text.now (0 ∷ 0 ∷ 0 ∷ 0 ∷ 0 ∷ 0 ∷ 0 ∷ 0 ∷ 0 ∷ 0 ∷ []) (omega arith))
-
-pub returns-then-i-text : goal.returns-then-i-text
-returns-then-i-text c = let h = cutting_last c.args.text.now c.loop-k.starts c.loop-k.k c.loop-k.i c.loop-k.invariant.3 (omega arith) c.loop-k-test.true c.if-i-text.true in
-    record { text = refl; count = h.0; starts = h.1 }
 
 pub loop-k-preserved : goal.loop-k-preserved
 loop-k-preserved c = let h = space_counts (get_or c.args.text.now c.loop-k.i 0) in (
@@ -21,6 +17,5 @@ loop-k-preserved c = let h = space_counts (get_or c.args.text.now c.loop-k.i 0) 
   rw h.0 (cutting_turn c.args.text.now c.loop-k.starts c.loop-k.k c.loop-k.i c.loop-k.invariant.3 (omega arith) (omega arith)),
 )
 
-pub returns : goal.returns
-returns c = let h = cutting_more c.args.text.now c.loop-k.starts c.loop-k.k c.loop-k.i c.loop-k.invariant.3 c.loop-k-test.false (omega arith) c.loop-k.invariant.0 in
-    record { text = refl; count = h.0; starts = h.1 }
+pub returns-clause-count : goal.returns-clause-count
+returns-clause-count c = (cutting_more c.args.text.now c.loop-k.starts c.loop-k.k c.loop-k.i c.loop-k.invariant.3 c.loop-k-test.false (omega arith) c.loop-k.invariant.0).0

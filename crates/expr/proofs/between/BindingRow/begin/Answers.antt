@@ -5,7 +5,6 @@ use Rattle.view.specs.Told.{binding_told}
 use Rattle.view.specs.Buffers.{env_of}
 use Rattle.emits.specs.Runs.{emits_say, ◌⟫◌}
 use Rattle.consts.specs.EmitsLaws.{emits_by}
-use Rattle.expr_parts.specs.Sources.{sources_in}
 use Rattle.expr.specs.Between.{begins, call_head}
 use Rattle.expr.proofs.Calls.{of_call}
 use Rattle.expr.proofs.between.BindingRow.begin.Goals as goal
@@ -13,8 +12,8 @@ use Rattle.expr.proofs.between.BindingRow.begin.Goals as goal
 pub returns-in-Some : goal.returns-in-Some
 returns-in-Some c =
     let env = env_of c.args.plan.now in
-    let b = c.args.self.number in
-    λ v d. emits_by (sym (of_call env (λ k g. begins env b k (sources_in c.args.plan.now c.args.self.row) ≡ call_head env b g) (λ m. refl) (λ m. refl) (binding_told c.args.self.binding) c.in-Some.sig c.called.ensures c.in-Some.is)) (c.call_head.ensures d)
+    let b = c.args.self.now.number in
+    λ v d. emits_by (sym (of_call env (λ k g. begins env b k c.args.self.now.sources.now ≡ call_head env b g) (λ m. refl) (λ m. refl) (binding_told c.args.self.now.binding) c.in-Some.sig c.called.ensures c.in-Some.is)) (c.call_head.ensures d)
 
 pub returns-in-ConstBool : goal.returns-in-ConstBool
 returns-in-ConstBool c = λ v d. rw c.in-ConstBool.is (c.emit_bool.ensures (env_of c.args.plan.now) d _)
@@ -32,7 +31,7 @@ returns-in-Argument c = λ v d. rw c.in-Argument.is (emits_say refl (c.argument.
 
 pub returns-in-MakeVariant : goal.returns-in-MakeVariant
 unfolding odd_pieces odd_piece
-returns-in-MakeVariant c = λ v d. rw (c.in-MakeVariant.is, ← (c.variant-variant.ensures v).0) (emits_say refl (c.variant_name.ensures d) ⟫ c.open_fields.ensures (env_of c.args.plan.now) d _)
+returns-in-MakeVariant c = λ v d. rw (c.in-MakeVariant.is, ← (c.variant-variant.ensures.own v).0) (emits_say refl (c.variant_name.ensures d) ⟫ c.open_fields.ensures (env_of c.args.plan.now) d _)
 
 pub returns-in-MakeStruct : goal.returns-in-MakeStruct
 unfolding odd_pieces odd_piece

@@ -6,7 +6,6 @@ use Rattle.view.specs.Buffers.{env_of}
 use Rattle.sema.specs.Signature.{sig_told}
 use Rattle.emits.specs.Runs.{emits_say}
 use Rattle.consts.specs.EmitsLaws.{emits_by}
-use Rattle.expr_parts.specs.Sources.{sources_in}
 use Rattle.expr.specs.Between.{ends, call_end}
 use Rattle.expr_parts.proofs.Laws.{odd_end}
 use Rattle.expr.proofs.Calls.{of_call}
@@ -15,8 +14,8 @@ use Rattle.expr.proofs.between.BindingRow.finish.Goals as goal
 pub returns-in-Some : goal.returns-in-Some
 returns-in-Some c =
     let env = env_of c.args.plan.now in
-    let b = c.args.self.number in
-    λ d₀ d m q. emits_by (sym (of_call env (λ k g. ends env d b k (sources_in c.args.plan.now c.args.self.row) ≡ call_end b g) (λ n. refl) (λ n. refl) (binding_told c.args.self.binding) c.in-Some.sig c.called.ensures c.in-Some.is)) (emits_say (odd_end (sig_told env c.in-Some.sig).ret_kind b) (c.put_call_end.ensures env d₀))
+    let b = c.args.self.now.number in
+    λ d₀ d m q. emits_by (sym (of_call env (λ k g. ends env d b k c.args.self.now.sources.now ≡ call_end b g) (λ n. refl) (λ n. refl) (binding_told c.args.self.now.binding) c.in-Some.sig c.called.ensures c.in-Some.is)) (emits_say (odd_end (sig_told env c.in-Some.sig).ret_kind b) (c.put_call_end.ensures env d₀))
 
 pub returns-in-MakeVariant : goal.returns-in-MakeVariant
 returns-in-MakeVariant c =

@@ -12,7 +12,7 @@ use Rattle.expr.proofs.between.BindingRow.put_after_source.Goals as goal
 pub returns-in-Some : goal.returns-in-Some
 returns-in-Some c =
     let env = env_of c.args.plan.now in
-    λ d. emits_by (sym (of_call env (λ k g. after_source env k c.args.i c.args.q c.args.given ≡ after_parameter env g c.args.i c.args.given) (λ n. refl) (λ n. refl) (binding_told c.args.self.binding) c.in-Some.sig c.called.ensures c.in-Some.is)) (c.after_parameter.ensures d _)
+    λ d. emits_by (sym (of_call env (λ k g. after_source env k c.args.i c.args.q c.args.given ≡ after_parameter env g c.args.i c.args.given) (λ n. refl) (λ n. refl) (binding_told c.args.self.now.binding) c.in-Some.sig c.called.ensures c.in-Some.is)) (c.after_parameter.ensures d _)
 
 pub returns-in-MakeVariant : goal.returns-in-MakeVariant
 returns-in-MakeVariant c =
@@ -26,4 +26,4 @@ pub returns-in_default-binding : goal.returns-in_default-binding
 returns-in_default-binding c =
     let k = c.in_default-binding in
     let env = env_of c.args.plan.now in
-    λ d. rw (after_other c.args.self.binding env c.called.ensures c.in_default.is k.not-MakeVariant k.not-MakeStruct c.args.i c.args.q c.args.given) (c.put_after.ensures env d)
+    λ d. rw (after_other c.args.self.now.binding env c.called.ensures c.in_default.is k.not-MakeVariant k.not-MakeStruct c.args.i c.args.q c.args.given) (c.put_after.ensures.emits env d)

@@ -13,10 +13,10 @@ use Rattle.expr.proofs.between.BindingRow.put_before.Goals as goal
 pub returns-in-Some : goal.returns-in-Some
 returns-in-Some c =
     let env = env_of c.args.plan.now in
-    λ v d₀ d m q. emits_by (sym (of_call env (λ k g. before_source env d k c.args.i c.args.given ≡ before_parameter env g c.args.i c.args.given) (λ n. refl) (λ n. refl) (binding_told c.args.self.binding) c.in-Some.sig c.called.ensures c.in-Some.is)) (c.before_parameter.ensures d₀ m)
+    λ v d₀ d m q. emits_by (sym (of_call env (λ k g. before_source env d k c.args.i c.args.given ≡ before_parameter env g c.args.i c.args.given) (λ n. refl) (λ n. refl) (binding_told c.args.self.now.binding) c.in-Some.sig c.called.ensures c.in-Some.is)) (c.before_parameter.ensures d₀ m)
 
 pub returns-in-MakeVariant : goal.returns-in-MakeVariant
-returns-in-MakeVariant c = λ v d₀ d m q. rw (c.in-MakeVariant.is, ← (c.variant-variant.ensures v).1) (emits_say (odd_head (fields_read c.args.plan.now c.variant-variant.result.fields) c.args.i d) (c.field_head.ensures d₀ d q))
+returns-in-MakeVariant c = λ v d₀ d m q. rw (c.in-MakeVariant.is, ← (c.variant-variant.ensures.own v).1) (emits_say (odd_head (fields_read c.variant-variant.result.fields) c.args.i d) (c.field_head.ensures d₀ d q))
 
 pub returns-in-MakeStruct : goal.returns-in-MakeStruct
-returns-in-MakeStruct c = λ v d₀ d m q. rw (c.in-MakeStruct.is, ← c.fields.ensures) (emits_say (odd_head (fields_read c.args.plan.now c.fields.result) c.args.i d) (c.field_head-in-MakeStruct.ensures d₀ d q))
+returns-in-MakeStruct c = λ v d₀ d m q. rw (c.in-MakeStruct.is, ← c.fields.ensures) (emits_say (odd_head (fields_read c.fields.result) c.args.i d) (c.field_head-in-MakeStruct.ensures d₀ d q))
