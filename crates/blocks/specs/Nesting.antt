@@ -1,16 +1,14 @@
 -- How the nesting goes with the open frames, where a row opens a frame and where a frame closes. Assumes nothing.
-use Rattle.std.specs.Prelude.{ℕ, zero, suc, ◌+◌, ◌-◌, ◌≡◌, Bool, true, false, cond, ◌&&◌, ltb, List, ◌∷◌, length}
+use Rattle.std.specs.Prelude.{ℕ, zero, suc, ◌+◌, ◌-◌, ◌≡◌, Bool, true, false, cond, ltb, List, ◌∷◌, length}
 use Rattle.std.proofs.Common.{sym, ap, ◌∙◌, arith, zero-add, lt-ltb, le-ltb}
-use Rattle.std.proofs.Math.Option.{Option, some, none}
-use Rattle.codegen.specs.Writer.{Marks}
-use Rattle.codegen.specs.Block.{Purpose, Frame, closure_count, closures, is_arm_body, numbered, pushed}
+use Rattle.std.proofs.Math.Option.{Option}
+use Rattle.codegen.specs.Block.{Frame, closure_count, closures, numbered}
 use Rattle.context.specs.declared.body_context.Nesting.{Nesting}
-use Rattle.row_frames.specs.Told.{opening}
 use Rattle.body.specs.Told.{StandsIn}
 
--- a row opens a frame or none, and a closure in it if it splits
-pub record Begun (n : Nesting) (x : Option Purpose) (splits : Bool) (n' : Nesting) : Type 0 where
-  pub depth : n'.depth ≡ cond splits (suc (n.depth + opening x)) (n.depth + opening x)
+-- a frame opens, and a closure in it if it splits
+pub record Begun (n : Nesting) (splits : Bool) (n' : Nesting) : Type 0 where
+  pub depth : n'.depth ≡ cond splits (suc (suc n.depth)) (suc n.depth)
   pub split : n'.match_split ≡ cond splits (suc n.match_split) n.match_split
   pub closure : n'.in_closure ≡ cond splits true n.in_closure
 
@@ -25,12 +23,10 @@ closure_flag : (d k depth : ℕ) → depth ≡ k + suc d → ltb (d + 1) depth �
 closure_flag d zero depth h = le-ltb (d + 1) depth (omega arith)
 closure_flag d (suc k) depth h = lt-ltb (d + 1) depth (omega arith) ∙ sym (lt-ltb 0 (suc k) (omega arith))
 
-pub stands_begun : {n n' : Nesting} {fs : List Frame} (x : Option Purpose) (l i : ℕ) (outside : Marks) (m : ℕ) (splits may : Bool) → StandsIn n fs → Begun n x splits n' → splits ≡ is_arm_body x && may → StandsIn n' (pushed x l i outside (numbered splits m) fs)
-unfolding closures pushed
-stands_begun none l i outside m true may s b h = absurd (let z : ◌≡◌ {A = ℕ} 0 1 = cc in omega arith)
-stands_begun none l i outside m false may s b h = record { depth = omega (arith, b.depth, s.depth); closure = b.closure ∙ s.closure }
-stands_begun {fs = fs} (some p) l i outside m true may s b h = record { depth = omega (arith, b.depth, s.depth); closure = b.closure ∙ sym (lt-ltb 0 (1 + closures fs) (omega arith)) }
-stands_begun {fs = fs} (some p) l i outside m false may s b h = record { depth = omega (arith, b.depth, s.depth); closure = b.closure ∙ s.closure ∙ ap (ltb 0) (sym (zero-add (closures fs))) }
+pub stands_begun : {n n' : Nesting} {fs : List Frame} (f : Frame) (m : ℕ) (splits : Bool) → StandsIn n fs → Begun n splits n' → f.closure ≡ numbered splits m → StandsIn n' (f ∷ fs)
+unfolding closures
+stands_begun {fs = fs} f m true s b h = rw h (record { depth = omega (arith, b.depth, s.depth); closure = b.closure ∙ sym (lt-ltb 0 (1 + closures fs) (omega arith)) })
+stands_begun {fs = fs} f m false s b h = rw h (record { depth = omega (arith, b.depth, s.depth); closure = b.closure ∙ s.closure ∙ ap (ltb 0) (sym (zero-add (closures fs))) })
 
 pub stands_ended : {n n' : Nesting} {f : Frame} {fs : List Frame} {d : ℕ} → StandsIn n (f ∷ fs) → length fs ≡ d → Ended n d f.closure n' → StandsIn n' fs
 unfolding closures

@@ -1,10 +1,10 @@
 -- What the functions for one row of a block do. Assumes nothing.
 use Rattle.std.specs.Prelude as code
-use Rattle.std.specs.Prelude.{ℕ, suc, ◌+◌, ◌≤◌, ◌<◌, ◌≡◌, Bool, true, false, ◌&&◌, ltb, leb, min, length, List, get_or, drop}
+use Rattle.std.specs.Prelude.{ℕ, ◌+◌, ◌≤◌, ◌<◌, ◌≡◌, Bool, true, false, ◌&&◌, ltb, leb, min, List, drop}
 use Rattle.std.proofs.Math.Path.{refl, sym}
 use Rattle.std.proofs.Common.{ap, subst, ◌∙◌, add-one, append_assoc, leb-true, leb-false, arith}
-use Rattle.std.proofs.Math.Option.{Option, none}
-use Rattle.text.specs.Writes.{Writes}
+use Rattle.std.proofs.Math.Option.{Option, some, none}
+use Rattle.text.specs.Writes.{Writes, writes_nil}
 use Rattle.text.specs.declared.sink.Sink.{Sink}
 use Rattle.plan.specs.Row.{Row, level}
 use Rattle.codegen.specs.Writer.{Marks}
@@ -14,15 +14,27 @@ use Rattle.view.specs.Told.{control_flow_of, constraint_of}
 use Rattle.emits.specs.Marks.{set_of}
 use Rattle.context.specs.Closing.{opening_text}
 use Rattle.context.specs.Laws.{opening_is, opening_odds}
+use Rattle.context.specs.declared.body_context.Nesting.{Nesting}
 use Rattle.context.specs.declared.body_context.BodyContext.{BodyContext}
 use Rattle.view.specs.BlockRows.{level_is, step_is, arm_is}
 use Rattle.row_frames.specs.Rows.{rows_none}
+use Rattle.row_frames.specs.Told.{purpose_told}
 use Rattle.body.specs.declared.Body.{Body}
-use Rattle.body.specs.Told.{env_in, row_in, rows_in, body_told, splits_above, Fits, StandsIn}
+use Rattle.body.specs.Told.{env_in, row_in, rows_in, body_told, splits_above, Fits, StandsAt, StandsIn}
 use Rattle.body.specs.Leads.{place_append}
 use Rattle.body.specs.Lines.{Leads, ◌⟫ₗ◌, leads_same, leads_text, lines_none}
 use Rattle.body.specs.Own.{WritesOwn, lets_own}
+use Rattle.blocks.specs.declared.row.Opened.{Opened}
 use Rattle.blocks.specs.Own.{bind_order, check, check_restores, joined, own_joined}
+
+-- which frame a row opens, and whether it has a closure
+abbrev pub frame_of : code.Option Opened → Option Purpose
+frame_of code.None = none
+frame_of (code.Some o) = some (purpose_told o.purpose)
+
+abbrev pub splits_of : code.Option Opened → Bool
+splits_of code.None = false
+splits_of (code.Some o) = o.splits
 
 -- the weights that split, in code: none, or those above a threshold
 pub record Splitting (sp : ℕ → Bool) (threshold : code.Option ℕ) : Type 0 where
@@ -47,7 +59,7 @@ pub weight_is : (b : Body) (r last : ℕ) {n k : ℕ} → last < 184467440737095
 weight_is b r last {n} {k} h g e = e ∙ rw (level_is (row_in b r)) (ap (block_weight (nth (row_in b r) 0)) (by_test (leb last r) refl))
   where
     by_test : (x : Bool) → leb last r ≡ x → rows_in b last n ≡ rows_in b last (r + 1)
-    by_test true q = let l : last ≤ r = leb-true last r q in rw (rows_none b.plan.now.words.now b.plan.now.rows.now n last (omega arith), rows_none b.plan.now.words.now b.plan.now.rows.now (r + 1) last (omega arith))
+    by_test true q = let l : last ≤ r = leb-true last r q in rw (rows_none b.bindings.plan.now.words.now b.bindings.plan.now.rows.now n last (omega arith), rows_none b.bindings.plan.now.words.now b.bindings.plan.now.rows.now (r + 1) last (omega arith))
     by_test false q = let l : r < last = leb-false last r q in let m : n ≡ r + 1 = omega arith in rw m
 
 -- From the sink w and the state s, what a row's `o` says leads to w' and s': its lines, and the opening of its closure if it splits, are
@@ -70,53 +82,61 @@ pub record RowKept (b : Body) (p : Purpose) (r last : ℕ) (w : Sink) (s : BodyC
 
 -- A STEP AND AN ARM
 
-module _ (b : Body) (r : ℕ) {w : Sink} {s : BodyContext} {w' : Sink} {s' : BodyContext} where
-  pub step_lets : s.nesting.depth < 4095 → ltb (nth (row_in b r) 1) 4 ≡ true
-      → WritesOwn (s.nesting.depth < 4294967296) b (λ q. lets_own (lets (body_told b) (drop 7 (row_in b r)) q (set_of s.is_bound))) w s none w' s'
-      → WritesOwn (Unit {0}) b (lets_in b (set_of s.is_bound) r) w s none w' s'
+module _ (b : Body) (r : ℕ) (bound : List Bool) {w : Sink} {refs : List Bool} {w' : Sink} {refs' bound' : List Bool} where
+  pub step_lets : {n : Nesting} → n.depth < 4095 → ltb (nth (row_in b r) 1) 4 ≡ true
+      → WritesOwn (n.depth < 4294967296) b (StandsAt n.depth) (λ q. lets_own (lets (body_told b) (drop 7 (row_in b r)) q (set_of bound))) w refs none w' refs' bound'
+      → WritesOwn (Unit {0}) b (StandsIn n) (lets_in b (set_of bound) r) w refs none w' refs' bound'
   unfolding bind_order
-  step_lets g h u =
-      subst (λ (x : Row). WritesOwn (Unit {0}) b (λ q. lets_own (lets (body_told b) (bind_order x) q (set_of s.is_bound))) w s none w' s') (sym (step_is (row_in b r) h))
-      (record { lines = λ t. u.lines (omega arith); frame = u.frame; bound = u.bound; nesting = u.nesting })
+  step_lets {n} g h u =
+      subst (λ (x : Row). WritesOwn (Unit {0}) b (StandsIn n) (λ q. lets_own (lets (body_told b) (bind_order x) q (set_of bound))) w refs none w' refs' bound') (sym (step_is (row_in b r) h))
+      (record { lines = λ t f i fs s. u.lines (omega arith) f i fs s.depth; frame = u.frame; bound = u.bound })
 
-  pub step_check : (last : ℕ) (p : Purpose) {opens : Option Purpose} → s.nesting.depth < 4095 → ltb (nth (row_in b r) 1) 4 ≡ true
-      → WritesOwn (s.nesting.depth < 4294967296) b (λ q. emit_check (body_told b) q (set_of s.is_bound) (nth (row_in b r) 0) (control_flow_of (row_in b r)) (rows_in b last (r + 1))) w s opens w' s'
-      → WritesOwn (Unit {0}) b (check_in b (set_of s.is_bound) p r last) w s opens w' s'
+  pub step_check : (last : ℕ) (p : Purpose) {opens : Option Purpose} {n : Nesting} → n.depth < 4095 → ltb (nth (row_in b r) 1) 4 ≡ true
+      → WritesOwn (n.depth < 4294967296) b (StandsIn n) (λ q. emit_check (body_told b) q (set_of bound) (nth (row_in b r) 0) (control_flow_of (row_in b r)) (rows_in b last (r + 1))) w refs opens w' refs' bound'
+      → WritesOwn (Unit {0}) b (StandsIn n) (check_in b (set_of bound) p r last) w refs opens w' refs' bound'
   unfolding check
-  step_check last p {opens} g h u =
-      subst (λ (x : Row). WritesOwn (Unit {0}) b (λ q. check (body_told b) q (set_of s.is_bound) p x (rows_in b last (r + 1))) w s opens w' s') (sym (step_is (row_in b r) h))
-      (record { lines = λ t. u.lines (omega arith); frame = u.frame; bound = u.bound; nesting = u.nesting })
+  step_check last p {opens} {n} g h u =
+      subst (λ (x : Row). WritesOwn (Unit {0}) b (StandsIn n) (λ q. check (body_told b) q (set_of bound) p x (rows_in b last (r + 1))) w refs opens w' refs' bound') (sym (step_is (row_in b r) h))
+      (record { lines = λ t. u.lines (omega arith); frame = u.frame; bound = u.bound })
 
-  pub arm_check : (last : ℕ) (p : Purpose) {opens : Option Purpose} → ltb (nth (row_in b r) 1) 4 ≡ false
-      → WritesOwn (Unit {0}) b (λ q. emit_arm (body_told b) q (set_of s.is_bound) p (constraint_of (row_in b r)) (patterns_in (drop 7 (row_in b r)))) w s opens w' s'
-      → WritesOwn (Unit {0}) b (check_in b (set_of s.is_bound) p r last) w s opens w' s'
+  pub arm_check : (last : ℕ) (p : Purpose) {opens : Option Purpose} {n : Nesting} → ltb (nth (row_in b r) 1) 4 ≡ false
+      → WritesOwn (Unit {0}) b (StandsAt n.depth) (λ q. emit_arm (body_told b) q (set_of bound) p (constraint_of (row_in b r)) (patterns_in (drop 7 (row_in b r)))) w refs opens w' refs' bound'
+      → WritesOwn (Unit {0}) b (StandsIn n) (check_in b (set_of bound) p r last) w refs opens w' refs' bound'
   unfolding check
-  arm_check last p {opens} h u = subst (λ (x : Row). WritesOwn (Unit {0}) b (λ q. check (body_told b) q (set_of s.is_bound) p x (rows_in b last (r + 1))) w s opens w' s') (sym (arm_is (row_in b r) h)) u
+  arm_check last p {opens} {n} h u =
+      subst (λ (x : Row). WritesOwn (Unit {0}) b (StandsIn n) (λ q. check (body_told b) q (set_of bound) p x (rows_in b last (r + 1))) w refs opens w' refs' bound') (sym (arm_is (row_in b r) h))
+      (record { lines = λ t f i fs s. u.lines t f i fs s.depth; frame = u.frame; bound = u.bound })
 
-pub arm_lets : (b : Body) (r : ℕ) {w : Sink} {s : BodyContext} → ltb (nth (row_in b r) 1) 4 ≡ false → WritesOwn (Unit {0}) b (lets_in b (set_of s.is_bound) r) w s none w s
+pub arm_lets : (b : Body) (r : ℕ) {n : Nesting} {w : Sink} {refs bound : List Bool} → ltb (nth (row_in b r) 1) 4 ≡ false → WritesOwn (Unit {0}) b (StandsIn n) (lets_in b (set_of bound) r) w refs none w refs bound
 unfolding bind_order lets
-arm_lets b r {w} {s} h =
-    subst (λ (x : Row). WritesOwn (Unit {0}) b (λ q. lets_own (lets (body_told b) (bind_order x) q (set_of s.is_bound))) w s none w s) (sym (arm_is (row_in b r) h))
-    (record { lines = λ t f i fs k. lines_none; frame = λ q. refl; bound = λ q. refl; nesting = refl })
+arm_lets b r {n} {w} {refs} {bound} h =
+    subst (λ (x : Row). WritesOwn (Unit {0}) b (StandsIn n) (λ q. lets_own (lets (body_told b) (bind_order x) q (set_of bound))) w refs none w refs bound) (sym (arm_is (row_in b r) h))
+    (record { lines = λ t f i fs k. lines_none; frame = λ q. refl; bound = λ q. refl })
 
 -- ONE AFTER THE OTHER
 
 -- what is written, then the opening of its closure
 pub ends_row : {b : Body} {o : Marks → Own} {weight : ℕ} {w : Sink} {s : BodyContext} {opens : Option Purpose} {w₁ : Sink} {w' : Sink} {s' : BodyContext} (splits : Bool)
-    → WritesOwn (Unit {0}) b o w s opens w₁ s' → ((sp : ℕ → Bool) → Splitting sp b.threshold → splits ≡ is_arm_body opens && sp weight) → Writes (opening_text (s.nesting.depth + 1) splits) w₁ w'
+    → WritesOwn (Unit {0}) b (StandsIn s.nesting) o w s.is_ref opens w₁ s'.is_ref s'.is_bound → s'.nesting ≡ s.nesting → ((sp : ℕ → Bool) → Splitting sp b.threshold → splits ≡ is_arm_body opens && sp weight) → Writes (opening_text (s.nesting.depth + 1) splits) w₁ w'
     → WritesRow b o weight w s opens splits w' s'
 unfolding row_parts
-ends_row {b} {s = s} splits u v x = record {
+ends_row {b} {s = s} splits u n v x = record {
   parts = λ f i fs k. (u.lines tt f i fs k).is ⟫ₗ leads_text (opening_odds i fs splits) (rw (opening_is (env_in b) fs i splits, ← k.depth, ← add-one) x);
   frame = u.frame;
   bound = u.bound;
-  nesting = u.nesting;
+  nesting = n;
   weighs = v;
 }
 
+-- what opens no frame has no closure
+pub ends_none : {b : Body} {o : Marks → Own} {weight : ℕ} {w : Sink} {s : BodyContext} {w' : Sink} {s' : BodyContext}
+    → WritesOwn (Unit {0}) b (StandsIn s.nesting) o w s.is_ref none w' s'.is_ref s'.is_bound → s'.nesting ≡ s.nesting → WritesRow b o weight w s none false w' s'
+unfolding opening_text
+ends_none u n = ends_row false u n (λ sp k. refl) writes_nil
+
 -- a row's lets, then what comes after them
 module _ {b : Body} (p : Purpose) (r last : ℕ) {w : Sink} {s : BodyContext} {w₁ : Sink} {s₁ : BodyContext} {opens : Option Purpose} {splits : Bool} {w' : Sink} {s' : BodyContext}
-    (u : WritesOwn (Unit {0}) b (lets_in b (set_of s.is_bound) r) w s none w₁ s₁) (v : WritesRow b (check_in b (set_of s₁.is_bound) p r last) (weight_in b r last) w₁ s₁ opens splits w' s') where
+    (u : WritesOwn (Unit {0}) b (StandsIn s.nesting) (lets_in b (set_of s.is_bound) r) w s.is_ref none w₁ s₁.is_ref s₁.is_bound) (n : s₁.nesting ≡ s.nesting) (v : WritesRow b (check_in b (set_of s₁.is_bound) p r last) (weight_in b r last) w₁ s₁ opens splits w' s') where
   writes_row : WritesRow b (own_in b (set_of s.is_bound) p r last) (weight_in b r last) w s opens splits w' s'
   unfolding joined row_parts
   writes_row =
@@ -127,10 +147,10 @@ module _ {b : Body} (p : Purpose) (r last : ℕ) {w : Sink} {s : BodyContext} {w
         parts = λ f i fs k. leads_same
             (rw (own_joined c (set_of s.is_ref) (set_of s.is_bound) p row rs, place_append, append_assoc, ← u.bound (set_of s.is_ref)))
             (rw (own_joined c (set_of s.is_ref) (set_of s.is_bound) p row rs, ← u.bound (set_of s.is_ref)))
-            ((u.lines tt f i fs k).is ⟫ₗ v.parts f i fs (rw u.nesting k));
+            ((u.lines tt f i fs k).is ⟫ₗ v.parts f i fs (rw n k));
         frame = λ q. rw (own_joined c q (set_of s.is_bound) p row rs, ← u.bound q) (v.frame (lets c (bind_order row) q (set_of s.is_bound)).refs);
         bound = λ q. rw (own_joined c q (set_of s.is_bound) p row rs, ← u.bound q) (v.bound (lets c (bind_order row) q (set_of s.is_bound)).refs);
-        nesting = v.nesting ∙ u.nesting;
+        nesting = v.nesting ∙ n;
         weighs = v.weighs;
       }
 

@@ -1,35 +1,45 @@
 // What one row of a block does: it writes its own, and may open a frame and a closure in it.
 ghost use Rattle.std.specs.Prelude.{◌≡◌, Bool, ◌&&◌, ℕ, ◌<◌};
-ghost use Rattle.std.proofs.Math.Option.{none};
+ghost use Rattle.std.proofs.Math.Option.{some, none};
 ghost use Rattle.codegen.specs.Block.{is_arm_body};
 ghost use Rattle.emits.specs.Marks.{set_of};
 ghost use Rattle.row_frames.specs.Told.{purpose_told, opens_told};
+ghost use Rattle.body.specs.Told.{StandsIn};
 ghost use Rattle.body.specs.Own.{WritesOwn};
-ghost use Rattle.blocks.specs.Row.{Splitting, lets_in, check_in, weight_in, WritesRow};
+ghost use Rattle.blocks.specs.Row.{Splitting, lets_in, check_in, weight_in, WritesRow, frame_of, splits_of};
 
 use body::Body;
 use context::block::begin_closure;
-use context::body_context::BodyContext;
+use context::body_context::{BodyContext, Nesting};
 use row_frames::Purpose;
 use steps::arm::emit_arm;
 use steps::check::emit_check;
 use steps::lets::emit_lets;
 use text::sink::Sink;
 
-// What a row has done: the frame that it opens, and whether that has a closure.
+// The frame that a row opens: what it is for, and whether it has a closure.
 #[derive(Clone, Copy)]
-pub struct RowDone {
-    pub opens: Option<Purpose>,
+pub struct Opened {
+    pub purpose: Purpose,
     pub splits: bool,
 }
 
-// A step's `bind_order`; an arm has none.
+// A step's `bind_order`; an arm has none. How deep lines are is asked of each call: an invariant of `Nesting` would ask it of `end_block`, too.
 pub fn emit_bind_order(w: &mut Sink<'_>, body: &Body<'_>, context: &mut BodyContext, r: usize)
     requires { context.old.nesting.depth < 4095 }
-    ensures { WritesOwn (Unit {0}) body.now (lets_in body.now (set_of context.old.is_bound) r) w.old context.old none w.new context.new }
+    ensures own { WritesOwn (Unit {0}) body.now (StandsIn context.old.nesting) (lets_in body.now (set_of context.old.is_bound) r) w.old context.old.is_ref none w.new context.new.is_ref context.new.is_bound }
+    ensures nesting { context.new.nesting ≡ context.old.nesting }
 {
-    if body.plan.is_step(r) {
-        emit_lets(w, body, context, r);
+    if body.bindings.plan.is_step(r) {
+        let depth = context.nesting.depth;
+        emit_lets(
+            w,
+            body,
+            &mut context.is_ref,
+            &mut context.is_bound,
+            depth,
+            r,
+        );
     }
 }
 
@@ -37,42 +47,43 @@ pub fn emit_bind_order(w: &mut Sink<'_>, body: &Body<'_>, context: &mut BodyCont
 fn emit_case(
     w: &mut Sink<'_>,
     body: &Body<'_>,
-    context: &mut BodyContext,
+    refs: &mut [bool],
+    bound: &mut [bool],
+    nesting: Nesting,
     r: usize,
     last: usize,
     purpose: Purpose,
 ) -> Option<Purpose>
-    requires { context.old.nesting.depth < 4095 }
-    ensures { WritesOwn (Unit {0}) body.now (check_in body.now (set_of context.old.is_bound) (purpose_told purpose) r last) w.old context.old (opens_told result) w.new context.new }
+    requires { nesting.depth < 4095 }
+    ensures { WritesOwn (Unit {0}) body.now (StandsIn nesting) (check_in body.now (set_of bound.old) (purpose_told purpose) r last) w.old refs.old (opens_told result) w.new refs.new bound.new }
 {
-    if body.plan.is_step(r) {
-        return emit_check(w, body, context, r, last);
+    if body.bindings.plan.is_step(r) {
+        return emit_check(w, body, refs, bound, nesting, r, last);
     }
-    emit_arm(w, body, context, r, purpose)
+    emit_arm(w, body, refs, bound, nesting.depth, r, purpose)
 }
 
-// Is the frame that a row opens that of an arm of a match of several?
-fn is_arm_body(opens: Option<Purpose>) -> bool
-    ensures { result ≡ is_arm_body (opens_told opens) }
+// Is a frame that of an arm of a match of several?
+fn is_arm_body(purpose: Purpose) -> bool
+    ensures { result ≡ is_arm_body (some (purpose_told purpose)) }
 {
-    matches!(opens, Some(Purpose::ArmBody))
+    matches!(purpose, Purpose::ArmBody)
 }
 
-// codegen.rs 880: does row r split, an arm that has a frame of its own? Nothing is weighed where the term can't split.
+// codegen.rs 880: does row r split, an arm that opens a frame? Nothing is weighed where the term can't split.
+// No `is_some_and`: of a closure that holds the plan it says nothing about the answer.
 #[tactic(auto, using(crate::specs::Row::weight_is))]
-fn splits_at(body: &Body<'_>, r: usize, last: usize, opens: Option<Purpose>) -> bool
-    ensures { (sp : ℕ → Bool) → Splitting sp body.now.threshold → result ≡ is_arm_body (opens_told opens) && sp (weight_in body.now r last) }
+fn splits_at(body: &Body<'_>, r: usize, last: usize, purpose: Purpose) -> bool
+    ensures { (sp : ℕ → Bool) → Splitting sp body.now.threshold → result ≡ is_arm_body (some (purpose_told purpose)) && sp (weight_in body.now r last) }
 {
-    if !is_arm_body(opens) {
+    if !is_arm_body(purpose) {
         return false;
     }
-    match body.threshold {
-        Some(threshold) => {
-            threshold
-                < weights::block_weight(body.plan, body.plan.word(r, 0), r.saturating_add(1), last)
-        }
-        None => false,
-    }
+    let Some(threshold) = body.threshold else {
+        return false;
+    };
+    let plan = body.bindings.plan;
+    threshold < weights::block_weight(plan, plan.word(r, 0), r.saturating_add(1), last)
 }
 
 // What row r does after its `bind_order`, up to the closure that it opens.
@@ -83,13 +94,22 @@ pub fn emit_rest(
     r: usize,
     last: usize,
     purpose: Purpose,
-) -> RowDone
+) -> Option<Opened>
     requires { context.old.nesting.depth < 4095 }
-    ensures { WritesRow body.now (check_in body.now (set_of context.old.is_bound) (purpose_told purpose) r last) (weight_in body.now r last) w.old context.old (opens_told result.opens) result.splits w.new context.new }
+    ensures { WritesRow body.now (check_in body.now (set_of context.old.is_bound) (purpose_told purpose) r last) (weight_in body.now r last) w.old context.old (frame_of result) (splits_of result) w.new context.new }
 {
-    let depth = context.nesting.depth;
-    let opens = emit_case(w, body, context, r, last, purpose);
-    let splits = splits_at(body, r, last, opens);
-    begin_closure(w, depth + 1, splits);
-    RowDone { opens, splits }
+    let nesting = context.nesting;
+    let purpose = emit_case(
+        w,
+        body,
+        &mut context.is_ref,
+        &mut context.is_bound,
+        nesting,
+        r,
+        last,
+        purpose,
+    )?;
+    let splits = splits_at(body, r, last, purpose);
+    begin_closure(w, nesting.depth + 1, splits);
+    Some(Opened { purpose, splits })
 }

@@ -1,72 +1,57 @@
 // The walk over the rows of a block. A turn of the loop closes a frame, or has a row write its own, so it is no `for` over rows. There is no
 // heap: the stack has a place for each level of an accepted plan.
-ghost use Rattle.std.specs.Prelude.{◌≡◌, length, ◌+◌, ◌^◌, ◌<◌};
+ghost use Rattle.std.specs.Prelude.{◌≡◌, length, [], ◌+◌, ◌^◌, ◌<◌};
 ghost use Rattle.codegen.specs.Block.{numbered};
 ghost use Rattle.rows.specs.View.{nth};
 ghost use Rattle.context.specs.Closing.{closure_told};
-ghost use Rattle.context.specs.Context.{outermost};
+ghost use Rattle.context.specs.Context.{outermost, deeper};
 ghost use Rattle.context.specs.Laws.{is_several};
 ghost use Rattle.row_frames.specs.Rows.{rows_from};
-ghost use Rattle.row_frames.specs.Told.{purpose_told, opens_told};
+ghost use Rattle.row_frames.specs.Stack.{open_frames};
+ghost use Rattle.row_frames.specs.Told.{purpose_told};
 ghost use Rattle.body.specs.Told.{row_in};
 ghost use Rattle.blocks.specs.Stack.{next_level};
 ghost use Rattle.blocks.specs.Nesting.{Begun, Ended};
-ghost use Rattle.blocks.specs.Row.{RowKept};
-ghost use Rattle.blocks.specs.Frames.{Opened, Closed};
+ghost use Rattle.blocks.specs.Row.{RowKept, frame_of, splits_of};
+ghost use Rattle.blocks.specs.Frames.{Closed};
 ghost use Rattle.blocks.specs.Loop.{BlockWritten};
 
-use super::row::{RowDone, emit_bind_order, emit_rest};
+use super::row::{Opened, emit_bind_order, emit_rest};
 use body::Body;
 use context::block::end_block;
 use context::body_context::{BodyContext, Nesting, enter_scope};
-use row_frames::{Purpose, frame_count, purpose_of};
+use row_frames::Purpose;
+use row_frames::stack::{Frame, Stack};
 use text::sink::Sink;
 use view::buffers::Plan;
 
-// An open frame: one more than the level of its row (0: the root, which stands around each level), the row, what it is for, the closure in
-// it, and the bindings that have names where it closes.
+// What the walk keeps of a frame, besides what each walk over rows does: its row, and the closure in it.
 #[derive(Clone, Copy)]
-pub struct Frame {
-    pub level: usize,
+pub struct RowFrame {
     pub row: usize,
-    pub purpose: Purpose,
     pub closure: Option<usize>,
-    pub bound: [bool; 1024],
 }
 
-impl Frame {
-    // What stands around every row. No binding has a name where it closes, since nothing comes after it.
-    pub const ROOT: Frame = Frame {
-        level: 0,
+impl RowFrame {
+    // Of the root, which no row opens.
+    pub const ROOT: RowFrame = RowFrame {
         row: 0,
-        purpose: Purpose::Body,
         closure: None,
-        bound: [false; 1024],
     };
 
-    // The frame is that of a row of a level, which has done this, where n closures have numbers. The bindings where it closes are kept.
-    fn begin(&mut self, level: usize, row: usize, done: RowDone, n: usize)
-        ensures { Opened level row (opens_told done.opens) done.splits n self.old self.new }
+    // Of what row `row` of the block opens: its closure, if it has one, has the next number.
+    #[tactic(auto, using(crate::specs::Stack::numbered_told))]
+    fn new(row: usize, splits: bool, nesting: Nesting) -> RowFrame
+        ensures row { result.row ≡ row }
+        ensures closure { closure_told result.closure ≡ numbered splits nesting.match_split }
     {
-        self.level = level;
-        self.row = row;
-        self.purpose = purpose_of(done.opens);
-        self.closure = number(done.splits, n);
-    }
-
-    // The frame closes, around which d are open: the bindings have names that had them where it opened.
-    fn end(&self, w: &mut Sink<'_>, context: &mut BodyContext, d: usize)
-        requires { (d + 1 < context.old.nesting.depth) × (context.old.nesting.depth < 4096) }
-        ensures { Closed self.now d w.old context.old w.new context.new }
-    {
-        let nesting = end_frame(context.nesting, d, self.closure);
-        context.is_bound = self.bound;
-        context.nesting = nesting;
-        end_block(w, nesting, self.closure, is_several(self.purpose));
+        let closure = splits.then_some(nesting.match_split);
+        RowFrame { row, closure }
     }
 }
 
-// One more than the level of row r, 0 past the last row: there each frame closes, as its level is not below 0.
+// One more than the level of row r, 0 past the last row: there each frame closes, as its level is not below 0. The level is read as a cell, which
+// has 32 bits: one more is a number.
 #[tactic(auto, using(crate::specs::Stack::level_next, crate::specs::Stack::level_none))]
 fn next_level(plan: &Plan<'_>, r: usize, last: usize) -> usize
     ensures level { result ≡ next_level (rows_from plan.now.words.now plan.now.rows.now last r) }
@@ -85,23 +70,13 @@ fn is_several(purpose: Purpose) -> bool
     matches!(purpose, Purpose::ArmsOf(_))
 }
 
-// The closure of a frame: the next number, if it has one.
-fn number(splits: bool, n: usize) -> Option<usize>
-    ensures { closure_told result ≡ numbered splits n }
-{
-    splits.then_some(n)
-}
-
-// What a row does to the nesting: the block of the frame that it opens begins. If that has a closure, that is numbered, and its block
-// begins too: codegen.rs 885 to 889.
-fn begin_frame(nesting: Nesting, opens: Option<Purpose>, splits: bool) -> Nesting
+// What opening a frame does to the nesting: its block begins. If it has a closure, that is numbered, and its block begins too: codegen.rs 885
+// to 889.
+fn begin_frame(nesting: Nesting, splits: bool) -> Nesting
     requires { (nesting.depth < 4095) × (nesting.match_split + 1 < 2 ^ 64) }
-    ensures { Begun nesting (opens_told opens) splits result }
+    ensures { Begun nesting splits result }
 {
-    let mut inner = nesting;
-    if opens.is_some() {
-        inner = inner.begin_block();
-    }
+    let mut inner = nesting.begin_block();
     if splits {
         inner = inner.count_split().begin_block();
         inner.in_closure = true;
@@ -123,11 +98,25 @@ fn end_frame(nesting: Nesting, d: usize, closure: Option<usize>) -> Nesting
     outer
 }
 
-// The bindings that have names where the frame that row r opens closes are kept; a `return` opens no frame.
+// The frame closes, around which d are open: the bindings have names that had them where it opened.
+fn close_frame(w: &mut Sink<'_>, context: &mut BodyContext, frame: &Frame<RowFrame>, d: usize)
+    requires { (d + 1 < context.old.nesting.depth) × (context.old.nesting.depth < 4096) }
+    ensures { Closed frame.now d w.old context.old w.new context.new }
+{
+    let closure = frame.own.closure;
+    let nesting = end_frame(context.nesting, d, closure);
+    context.is_bound = frame.bound;
+    context.nesting = nesting;
+    end_block(w, nesting, closure, is_several(frame.purpose));
+}
+
+// The bindings that have names where the frame that row r opens closes are kept; a `return` opens no frame. Not one function with
+// `save_names` of `row_faults`: this goes through codegen.rs's step `enter_scope`, which document 01 names and a judge does not take;
+// one function for both would take the step out of here.
 fn save_scope(scope: &mut [bool; 1024], bound: &[bool; 1024], body: &Body<'_>, r: usize)
     ensures { (nth (row_in body.now r) 1 ≡ 3 → ⊥) → scope.new ≡ bound.now }
 {
-    if !body.plan.is_return(r) {
+    if !body.bindings.plan.is_return(r) {
         *scope = enter_scope(*bound);
     }
 }
@@ -141,23 +130,65 @@ fn emit_row(
     r: usize,
     last: usize,
     purpose: Purpose,
-) -> RowDone
+) -> Option<Opened>
     requires { context.old.nesting.depth < 4095 }
-    ensures { RowKept body.now (purpose_told purpose) r last w.old context.old (opens_told result.opens) result.splits w.new context.new scope.new }
+    ensures { RowKept body.now (purpose_told purpose) r last w.old context.old (frame_of result) (splits_of result) w.new context.new scope.new }
 {
     emit_bind_order(w, body, context, r);
     save_scope(scope, &context.is_bound, body, r);
     emit_rest(w, body, context, r, last, purpose)
 }
 
-// The rows from row `first` up to row `last`, the block of a generated term. The context has the arguments' marks. Lent is room for the
-// frames that are open at once, with the root.
+// The rows from row `first` up to row `last`, where no frame is open yet.
 // Not one generic function with the walk of `faults`: what a turn does at an opening and a closing differs, and each has its own invariant.
+fn emit_rows(
+    w: &mut Sink<'_>,
+    body: &Body<'_>,
+    context: &mut BodyContext,
+    stack: &mut Stack<'_, RowFrame>,
+    first: usize,
+    last: usize,
+)
+    requires none { open_frames stack.old.frames.now stack.old.top ≡ [] }
+    requires starts { context.old.nesting ≡ deeper outermost }
+    ensures { BlockWritten body.now first last (length stack.old.frames.now) context.old.is_ref context.old.is_bound w.old w.new }
+{
+    let mut r = first;
+    'rows: while w.at < w.end {
+        let next = next_level(body.bindings.plan, r, last);
+        let d = stack.top;
+        let frame = stack.last();
+        let purpose = frame.purpose;
+        if next <= frame.level {
+            if d == 0 {
+                return;
+            }
+            close_frame(w, context, frame, d - 1);
+            stack.pop();
+            continue;
+        }
+        if stack.frames.len().min(65) <= d + 1 {
+            return;
+        }
+        let frames = &mut *stack.frames;
+        let scope = &mut frames[d + 1].bound;
+        if let Some(opened) = emit_row(w, body, context, scope, r, last, purpose) {
+            let own = RowFrame::new(r - first, opened.splits, context.nesting);
+            stack.push(next, opened.purpose, own);
+            context.nesting = begin_frame(context.nesting, opened.splits);
+        }
+        r += 1;
+    }
+}
+
+// The rows from row `first` up to row `last`, the block of a generated term. The context has the arguments' marks. Lent is room for the
+// frames that are open at once, with the root. The first and the last row stay two numbers, as
+// `emit_with` of `emit_terms` has them, which chooses the room.
 pub fn emit_block_contents(
     w: &mut Sink<'_>,
     body: &Body<'_>,
     context: BodyContext,
-    frames: &mut [Frame],
+    frames: &mut [Frame<RowFrame>],
     first: usize,
     last: usize,
 )
@@ -166,29 +197,6 @@ pub fn emit_block_contents(
 {
     let mut state = context;
     state.nesting = context.nesting.begin_block();
-    frames[0] = Frame::ROOT;
-    let mut d = 0;
-    let mut r = first;
-    'rows: while w.at < w.end {
-        let next = next_level(body.plan, r, last);
-        if next <= frames[d].level {
-            if d == 0 {
-                return;
-            }
-            frames[d].end(w, &mut state, d - 1);
-            d -= 1;
-            continue;
-        }
-        let top = d + 1;
-        if frames.len().min(65) <= top {
-            return;
-        }
-        let purpose = frames[d].purpose;
-        let f = &mut frames[top];
-        let s = emit_row(w, body, &mut state, &mut f.bound, r, last, purpose);
-        f.begin(next, r - first, s, state.nesting.match_split);
-        state.nesting = begin_frame(state.nesting, s.opens, s.splits);
-        d += frame_count(s.opens);
-        r += 1;
-    }
+    let mut stack = Stack::new(frames, RowFrame::ROOT);
+    emit_rows(w, body, &mut state, &mut stack, first, last);
 }

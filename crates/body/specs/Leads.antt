@@ -167,7 +167,3 @@ module _ {e : ℕ} {env : Environment} {i : Option ℕ} {fs : List Frame} {d : �
       → LinesLead e env i fs (λ r. overflow ∷ []) (λ r. r) o at n q o' at' n q
   unfolding block.place what_bytes line_bytes
   lines_overflow h x y z = record { is = leads_what {w = line overflow} refl h x y z }
-
--- A LOOP that writes lines from the front: what is left to write, x at the present place, ends where x₀ from the start does.
-pub record LinesRest (e : ℕ) (env : Environment) (i : Option ℕ) (fs : List Frame) (x₀ : Marks → List Line) (a₀ : Marks → Marks) (o₀ : List ℕ) (at₀ n₀ : ℕ) (q₀ : Marks) (x : Marks → List Line) (a : Marks → Marks) (o : List ℕ) (at n : ℕ) (q : Marks) : Type 0 where
-  pub ends : (o' : List ℕ) (at' n' : ℕ) (q' : Marks) → LinesLead e env i fs x a o at n q o' at' n' q' → LinesLead e env i fs x₀ a₀ o₀ at₀ n₀ q₀ o' at' n' q'

@@ -83,7 +83,3 @@ module _ {env : Environment} {i : Option ℕ} {fs : List Frame} {d : ℕ} {w w�
 -- parts whose bytes are put at once, and which have no odd literal
 pub leads_text : {env : Environment} {ps : List Part} {w w' : Sink} {q : Marks} → odds_of ps ≡ 0 → Writes (text_of env ps) w w' → Leads env (λ r. ps) (λ r. r) w q w' q
 leads_text h x = record { buffer = x.buffer; end = x.end; leads = rw x.odd (at.leads_parts (parts_puts h x.puts)) }
-
--- A LOOP that writes lines from the front: what is left to write, x at the present place, ends where x₀ from the start does.
-pub record LinesRest (env : Environment) (i : Option ℕ) (fs : List Frame) (x₀ : Marks → List Line) (a₀ : Marks → Marks) (w₀ : Sink) (q₀ : Marks) (x : Marks → List Line) (a : Marks → Marks) (w : Sink) (q : Marks) : Type 0 where
-  pub ends : (w' : Sink) (q' : Marks) → LinesLead env i fs x a w q w' q' → LinesLead env i fs x₀ a₀ w₀ q₀ w' q'

@@ -1,22 +1,21 @@
 -- What a row writes itself: the definition's `Own`, as code writes it. Assumes nothing: these are definitions.
-use Rattle.std.specs.Prelude.{ℕ, ◌≡◌, List}
+use Rattle.std.specs.Prelude.{ℕ, ◌≡◌, Bool, List}
 use Rattle.std.proofs.Math.Option.{Option, some, none}
 use Rattle.text.specs.declared.sink.Sink.{Sink}
 use Rattle.codegen.specs.Writer.{Marks}
 use Rattle.codegen.specs.Block.{Purpose, Own, Lets, Frame}
 use Rattle.emits.specs.Marks.{set_of}
-use Rattle.context.specs.declared.body_context.BodyContext.{BodyContext}
 use Rattle.body.specs.declared.Body.{Body}
-use Rattle.body.specs.Told.{env_in, Fits, StandsIn}
+use Rattle.body.specs.Told.{env_in, Fits}
 use Rattle.body.specs.Lines.{LinesLead}
 
--- From the sink w and the state s, what a row's `o` says leads to w' and s': its lines, inside the frames around, are written, where the
--- lines are not too deep; which frame it opens, and which bindings have names after it, hold wherever the writing is.
-pub record WritesOwn (deep : Type 0) (b : Body) (o : Marks → Own) (w : Sink) (s : BodyContext) (opens : Option Purpose) (w' : Sink) (s' : BodyContext) : Type 0 where
-  pub lines : deep → Fits b → (i : ℕ) (fs : List Frame) → StandsIn s.nesting fs → LinesLead (env_in b) (some i) fs (λ r. (o r).lines) (λ r. (o r).refs) w (set_of s.is_ref) w' (set_of s'.is_ref)
+-- From the sink w and the marks of references `refs`, what a row's `o` says leads to w', refs' and the names bound': its lines are written
+-- inside such frames, where the lines are not too deep; which frame it opens, and which bindings have names after it, hold wherever the
+-- writing is.
+pub record WritesOwn (deep : Type 0) (b : Body) (inside : List Frame → Type 0) (o : Marks → Own) (w : Sink) (refs : List Bool) (opens : Option Purpose) (w' : Sink) (refs' bound' : List Bool) : Type 0 where
+  pub lines : deep → Fits b → (i : ℕ) (fs : List Frame) → inside fs → LinesLead (env_in b) (some i) fs (λ r. (o r).lines) (λ r. (o r).refs) w (set_of refs) w' (set_of refs')
   pub frame : (r : Marks) → opens ≡ (o r).frame
-  pub bound : (r : Marks) → set_of s'.is_bound ≡ (o r).bound
-  pub nesting : s'.nesting ≡ s.nesting
+  pub bound : (r : Marks) → set_of bound' ≡ (o r).bound
 
 -- a row's lets as its own lines: they open no frame
 abbrev pub lets_own : Lets → Own

@@ -2,17 +2,17 @@
 use Prim.Native.Nat.{ℕ, zero, suc, ◌+◌, ◌-◌, ◌≤◌, ◌<◌}
 use mathlib.Core.Path.{◌≡◌, refl, ◌∙◌}
 use mathlib.Core.Bool.{true, false, cond, ◌||◌}
-use mathlib.Core.List.{List, [], map}
+use mathlib.Core.List.{List, map}
 use native.Mathlib.Omega.{arith}
 use lib.Dec.{eqb, ltb}
 use borrow.Author.Tests.{ne_eqb, le-ltb}
-use lib.ListN.{drop, get_or, get_or-map}
+use lib.ListN.{drop}
 use Rattle.std.specs.List.{list_all, range_with_len}
 use Rattle.plan.specs.Binding.{BindingRow}
 use Rattle.plan.specs.Row.{Row, step, arm, level}
 use Rattle.plan.specs.Lookup.{binding_at, term_at}
 use Rattle.plan.specs.Refusal.{every, is_match, is_loop, is_return, is_iterator, loop_fits, matches_armed, ends_block, returns_last, returns_fit}
-use Rattle.rows.specs.View.{nth, wide_at, patterns_in, binding_of, binding_made, block_of, step_made, arm_made}
+use Rattle.rows.specs.View.{nth, wide_at, patterns_in, block_of, step_made, arm_made}
 use Rattle.layout.specs.View.{cuts}
 use Rattle.rows.specs.declared.kinds.BlockKind.{BlockKind}
 use Rattle.rows.specs.declared.kinds.BlockKind.TheVariants as kind
@@ -137,10 +137,6 @@ unfolding returns_fit
 returns_tests p = rw (environment_is p.words.now p.rows.now p.tables.now p.bytes.now) refl
 
 -- 10
-
-pub binding_is : (t : List (List ℕ)) (n : ℕ) → binding_at (map binding_of t) n ≡ binding_of (get_or t n [])
-unfolding binding_of binding_made
-binding_is t n = get_or-map binding_of t n []
 
 pub iterates_at : (bs : List BindingRow) (t : List (List ℕ)) → every (loop_fits bs) (map block_of t) ≡ every (λ ws. loop_fits bs (block_of ws)) t
 iterates_at bs t = every_map (loop_fits bs) block_of t

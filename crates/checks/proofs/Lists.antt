@@ -1,12 +1,13 @@
 -- Lists of named fields and of patterns, word by word. Assumes nothing.
-use Prim.Native.Nat.{ℕ, ◌-◌, ◌≤◌, ◌<◌}
+use Prim.Native.Nat.{ℕ, suc, ◌/◌}
 use mathlib.Core.Path.{◌≡◌, refl, ap}
-use mathlib.Core.Bool.{Bool, true, ◌&&◌}
+use mathlib.Core.Bool.{Bool, ◌&&◌}
 use mathlib.Core.List.{List, [], ◌∷◌}
 use native.Mathlib.Omega.{arith}
-use lib.ListN.{length, take, drop}
-use lib.Seq.{take_all}
-use Rattle.plan.specs.Plan.{Field}
+use lib.Dec.{ltb}
+use lib.ListN.{length}
+use Rattle.std.specs.List.{list_all}
+use Rattle.std.specs.Simd.{first_chunks}
 use Rattle.plan.specs.Refusal.{every, bound_below}
 use Rattle.rows.specs.View.{nth, fields_in, pattern_of, patterns_in}
 
@@ -15,16 +16,9 @@ unfolding every patterns_in
 every_pattern n [] = refl
 every_pattern n (q ∷ l) = ap (λ (b : Bool). bound_below n (pattern_of q) && b) (every_pattern n l)
 
-module _ (P : Field → Bool) where
-  -- the first field, and the others
-  pub fields_two : (l : List ℕ) → 2 ≤ length l → every P (fields_in l) ≡ (P (record { name = nth l 0; ty = nth l 1 }) && every P (fields_in (take (length l - 2) (drop 2 l))))
-  unfolding every fields_in
-  fields_two [] h = absurd (omega arith)
-  fields_two (x ∷ []) h = absurd (omega arith)
-  fields_two (x ∷ y ∷ l) h = let z : length (x ∷ y ∷ l) - 2 ≡ length l = omega arith in rw (z, take_all (length l) l (omega arith)) refl
-
-  pub fields_none : (l : List ℕ) → length l < 2 → every P (fields_in l) ≡ true
-  unfolding every fields_in
-  fields_none [] h = refl
-  fields_none (x ∷ []) h = refl
-  fields_none (x ∷ y ∷ l) h = absurd (omega arith)
+-- the fields, two words each
+pub every_field : (m n : ℕ) (l : List ℕ) → list_all (λ a. ltb (nth a 0) m && ltb (nth a 1) n) (first_chunks 2 (length l / 2) l) ≡ every (λ f. ltb f.name m && ltb f.ty n) (fields_in l)
+unfolding every fields_in
+every_field m n [] = refl
+every_field m n (x ∷ []) = refl
+every_field m n (x ∷ y ∷ l) = let z : length (x ∷ y ∷ l) / 2 ≡ suc (length l / 2) = omega arith in rw (z, every_field m n l) refl

@@ -1,6 +1,6 @@
 -- Refusal 7 row by row: sources below their binding, and arguments that are marked as they are met. Assumes nothing.
-use Prim.Native.Nat.{ℕ, zero, suc, ◌+◌, ◌-◌, ◌≤◌, ◌<◌}
-use mathlib.Core.Path.{◌≡◌, refl, sym, ap, ◌∙◌}
+use Prim.Native.Nat.{ℕ, zero, suc, ◌+◌, ◌<◌}
+use mathlib.Core.Path.{◌≡◌, refl, sym, ◌∙◌}
 use mathlib.Core.Bool.{Bool, true, false, not, ◌&&◌}
 use mathlib.Core.List.{List, [], ◌∷◌, map}
 use mathlib.Core.Option.{Option, some, none}
@@ -17,13 +17,11 @@ use Rattle.plan.specs.Lookup.{argument_index}
 use Rattle.plan.specs.Refusal.{every, bound_below, differ, sources_below, arguments_distinct, sources_lower}
 use Rattle.rows.specs.View.{binding_of}
 use Rattle.layout.specs.View.{cuts}
-use Rattle.view.specs.Buffers.{words_of, rows_of, plan_of}
+use Rattle.view.specs.Buffers.{words_of, plan_of}
 use Rattle.view.specs.Told.{binding_told}
 use Rattle.view.specs.declared.binding.Binding.{Binding}
 use Rattle.view.specs.declared.binding.Binding.TheVariants as b
 use Rattle.view.specs.declared.buffers.Plan.{Plan}
-use Rattle.view.proofs.Laws.{cuts_next, cuts_none}
-use Rattle.checks.proofs.Every.{rows_start}
 use Rattle.checks.specs.Within.{few_arguments, arguments_few, mark_new, marked, marks_new}
 
 -- the bindings from row r on, of which the first is the binding i
@@ -49,22 +47,6 @@ no_argument b.MatchSome n = refl
 no_argument (b.MatchTuple k) n = refl
 no_argument (b.MatchVariant k) n = refl
 no_argument (b.ExtractStruct k) n = refl
-
--- the bindings from row r up to row m
-abbrev pub new_from : Plan → ℕ → ℕ → List Bool → Bool
-new_from p m r ms = marks_new ms (map binding_of (cuts p.words.now p.rows.now r (m - r)))
-
-module _ (p : Plan) (m r : ℕ) (ms : List Bool) where
-  pub new_none : m ≤ r → new_from p m r ms ≡ true
-  unfolding marks_new
-  new_none h = rw (cuts_none p.words.now p.rows.now r m h) refl
-
-  pub new_next : r < m → new_from p m r ms ≡ (mark_new ms (argument_index (binding_of (words_of p r)).binding) && new_from p m (r + 1) (marked ms (argument_index (binding_of (words_of p r)).binding)))
-  unfolding marks_new
-  new_next h = rw (cuts_next p.words.now p.rows.now r m h) refl
-
-pub new_start : (p : Plan) (m r : ℕ) (ms : List Bool) (t : ℕ) → r ≡ get_or p.tables.now t 0 → m ≡ get_or p.tables.now (t + 1) 0 → new_from p m r ms ≡ marks_new ms (map binding_of (rows_of p t))
-new_start p m r ms t h g = ap (λ l. marks_new ms (map binding_of l)) (rows_start p.words.now p.rows.now p.tables.now t r m h g)
 
 -- what is left to find: no row's mark is set, and the rows differ
 abbrev unmarked : List Bool → List BindingRow → Bool

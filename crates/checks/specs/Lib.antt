@@ -1,2 +1,3 @@
+pub mod Terms
 pub mod Tests
 pub mod Within

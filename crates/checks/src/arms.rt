@@ -1,10 +1,11 @@
 // Refusal 9: a `match` without arms.
-ghost use Rattle.std.specs.Prelude.{◌≡◌, not, ◌||◌, map, ◌+◌, ◌-◌};
+ghost use Rattle.std.specs.Prelude.{◌≡◌, not, ◌||◌, map, ◌+◌, ◌-◌, List, ℕ};
 ghost use Rattle.plan.specs.Row.{level};
 ghost use Rattle.plan.specs.Refusal.{is_match, has_below, matches_armed, matches_have_arms};
 ghost use Rattle.rows.specs.View.{block_of};
 ghost use Rattle.layout.specs.View.{cuts};
 ghost use Rattle.view.specs.Buffers.{words_of, rows_of, plan_of};
+ghost use Rattle.view.specs.Tables.{plan_in};
 ghost use Rattle.checks.specs.Tests.{armed};
 
 use super::tables::all_generated;
@@ -16,7 +17,7 @@ use view::buffers::Plan;
 fn is_match(plan: &Plan<'_>, r: usize) -> bool
     ensures { result ≡ is_match (block_of (words_of plan.now r)) }
 {
-    matches!(plan.block_kind(r), BlockKind::Match)
+    plan.block_kind(r) == BlockKind::Match
 }
 
 // Whether row r, in a block that ends before row `end`, is no match or has the next row below it.
@@ -27,18 +28,19 @@ fn is_armed(plan: &Plan<'_>, r: usize, end: usize) -> bool
     !is_match(plan, r) || (r < end && r + 1 < end && plan.word(r, 0) < plan.word(r + 1, 0))
 }
 
-// Whether each match of the block of table t has arms. The tests of blocks and of plans are one line each over the loops of `tables`: what
-// differs is the test alone, and a function of those lines would be another such loop.
+// Whether each match of the block of table t has arms. The tests of blocks and of plans are one line each over a chain of their own or one of
+// `tables`: what differs is the test alone, and a function of those lines would be another such chain.
 fn block_armed(plan: &Plan<'_>, t: usize) -> bool
     ensures { result ≡ matches_armed (map block_of (rows_of plan.now t)) }
 {
     let end = plan.end_row(t);
-    (plan.first_row(t)..end).all(|r| is_armed(plan, r, end))
+    plan.row_range(t).all(|r| is_armed(plan, r, end))
 }
 
-#[tactic(auto, unfolding(plan::specs::Refusal::matches_have_arms))]
+#[tactic(auto, using(crate::proofs::Bytes::arms_any), unfolding(plan::specs::Refusal::matches_have_arms))]
 pub fn matches_have_arms(plan: &Plan<'_>) -> bool
-    ensures { result ≡ matches_have_arms (plan_of plan.now) }
+    ensures own { result ≡ matches_have_arms (plan_of plan.now) }
+    ensures any { (bytes : List ℕ) → result ≡ matches_have_arms (plan_in bytes plan.now.words.now plan.now.rows.now plan.now.tables.now) }
 {
     all_generated(plan, |g| block_armed(plan, g.block))
 }

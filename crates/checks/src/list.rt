@@ -3,7 +3,7 @@ ghost use Rattle.std.specs.Prelude.{◌≡◌, ◌&&◌, ◌<◌, ltb};
 ghost use Rattle.plan.specs.Refusal.{every, bound_below};
 ghost use Rattle.rows.specs.View.{fields_in, pattern_of, patterns_in};
 
-use lists::UNBOUND;
+use view::block::pattern_of;
 
 // Whether each number is below n.
 pub fn list_below(list: &[u32], n: usize) -> bool
@@ -16,7 +16,7 @@ pub fn list_below(list: &[u32], n: usize) -> bool
 fn is_bound_below(q: u32, n: usize) -> bool
     ensures { result ≡ bound_below n (pattern_of q) }
 {
-    q == UNBOUND || (q as usize) < n
+    pattern_of(q).is_none_or(|b| b < n)
 }
 
 // Whether each binding of an arm's list is below n.
@@ -26,17 +26,10 @@ pub fn patterns_below(list: &[u32], n: usize) -> bool
     list.iter().all(|q| is_bound_below(*q, n))
 }
 
-// Whether each named field's name is below `syms` and its type below `types`. The loop counts nothing: it takes two words at a time.
-#[tactic(auto, using(crate::proofs::Lists::fields_two, crate::proofs::Lists::fields_none))]
+// Whether each named field's name is below `syms` and its type below `types`.
 pub fn fields_below(list: &[u32], syms: usize, types: usize) -> bool
     ensures { result ≡ every (λ f. ltb f.name syms && ltb f.ty types) (fields_in list.now) }
 {
-    let mut fields = list;
-    while let [name, ty, rest @ ..] = fields {
-        if *name as usize >= syms || *ty as usize >= types {
-            return false;
-        }
-        fields = rest;
-    }
-    true
+    list.as_chunks::<2>().0.iter().all(|[name, ty]| (*name as usize) < syms
+        && (*ty as usize) < types)
 }

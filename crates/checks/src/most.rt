@@ -1,14 +1,16 @@
 // Refusal 4: a table, level or list over its most.
-ghost use Rattle.std.specs.Prelude.{◌≡◌};
+ghost use Rattle.std.specs.Prelude.{◌≡◌, List, ℕ};
 ghost use Rattle.plan.specs.Refusal.{environment_most, generated_most, row_most, within_most};
 ghost use Rattle.rows.specs.View.{block_of};
 ghost use Rattle.view.specs.Buffers.{words_of, env_of, plan_of};
+ghost use Rattle.view.specs.Tables.{plan_in};
 ghost use Rattle.checks.specs.Tests.{generated_of};
 ghost use Rattle.checks.specs.Within.{counts_most};
 
 use super::tables::{GeneratedTables, all_generated, all_rows, generated_count};
 use literal::builtin_type::BuiltinType;
 use view::buffers::Plan;
+use view::heads::{BINDING_HEAD, BLOCK_HEAD, TERM_HEAD};
 use view::tables::{FILES, POSS, SYMS, TERMS, TYPES, VARIANTS};
 
 // The most values that a list has, and the highest level.
@@ -39,7 +41,7 @@ fn environment_within(plan: &Plan<'_>) -> bool
     counts_within(plan)
         && all_rows(plan, TYPES, |r| plan.type_field_count(r) <= LIST_MOST)
         && all_rows(plan, VARIANTS, |r| plan.variant_field_count(r) <= LIST_MOST)
-        && all_rows(plan, TERMS, |r| plan.list(r, 8).len() <= LIST_MOST)
+        && all_rows(plan, TERMS, |r| plan.list(r, TERM_HEAD).len() <= LIST_MOST)
 }
 
 // Whether the level and the list of row r, of a block, are within their most.
@@ -47,7 +49,7 @@ fn environment_within(plan: &Plan<'_>) -> bool
 fn row_within(plan: &Plan<'_>, r: usize) -> bool
     ensures { result ≡ row_most (block_of (words_of plan.now r)) }
 {
-    plan.word(r, 0) <= LEVEL_MOST && plan.list(r, 7).len() <= LIST_MOST
+    plan.word(r, 0) <= LEVEL_MOST && plan.list(r, BLOCK_HEAD).len() <= LIST_MOST
 }
 
 // Whether the bindings and the block of a generated term are within their most.
@@ -57,13 +59,18 @@ fn generated_within(plan: &Plan<'_>, g: GeneratedTables) -> bool
 {
     plan.row_count(g.bindings) <= 1024
         && plan.row_count(g.block) <= 2048
-        && all_rows(plan, g.bindings, |r| plan.list(r, 6).len() <= LIST_MOST)
+        && all_rows(
+            plan,
+            g.bindings,
+            |r| plan.list(r, BINDING_HEAD).len() <= LIST_MOST,
+        )
         && all_rows(plan, g.block, |r| row_within(plan, r))
 }
 
-#[tactic(auto, using(crate::proofs::Counts::within_tests))]
+#[tactic(auto, using(crate::proofs::Counts::within_tests, crate::proofs::Bytes::most_any))]
 pub fn within_most(plan: &Plan<'_>) -> bool
-    ensures { result ≡ within_most (plan_of plan.now) }
+    ensures own { result ≡ within_most (plan_of plan.now) }
+    ensures any { (bytes : List ℕ) → result ≡ within_most (plan_in bytes plan.now.words.now plan.now.rows.now plan.now.tables.now) }
 {
     environment_within(plan)
         && generated_count(plan) <= 64

@@ -16,6 +16,15 @@ pub struct GeneratedTables {
     pub block: usize,
 }
 
+impl GeneratedTables {
+    // The number of the term.
+    pub fn number(self, plan: &Plan<'_>) -> usize
+        ensures { result ≡ (generated_of plan.now self).term }
+    {
+        plan.word(plan.row_at(self.term, 0), 0)
+    }
+}
+
 // The tables of generated term i: three each.
 pub fn generated_tables(i: usize) -> GeneratedTables
     requires { i < 2 ^ 62 }
@@ -30,7 +39,7 @@ pub fn generated_tables(i: usize) -> GeneratedTables
 }
 
 // How many generated terms there are: `tables` has an entry more than there are tables.
-#[tactic(auto, using(crate::proofs::Tests::terms_count))]
+#[tactic(auto, using(crate::specs::Terms::terms_count))]
 pub fn generated_count(plan: &Plan<'_>) -> usize
     ensures count { result ≡ length (plan_of plan.now).generated }
     ensures few { result < 2 ^ 62 }
@@ -43,12 +52,7 @@ pub fn all_generated<F: Fn(GeneratedTables) -> bool>(plan: &Plan<'_>, test: F) -
     requires { F.IsAlwaysCallable test }
     ensures { (P : Generated → Bool) → Tests (F.post test) (generated_of plan.now) P → result ≡ every P (plan_of plan.now).generated }
 {
-    for i in 0..generated_count(plan) {
-        if !test(generated_tables(i)) {
-            return false;
-        }
-    }
-    true
+    (0..generated_count(plan)).map(generated_tables).all(test)
 }
 
 // Whether each row of table t passes a test.
@@ -56,5 +60,5 @@ pub fn all_rows<F: Fn(usize) -> bool>(plan: &Plan<'_>, t: usize, test: F) -> boo
     requires { F.IsAlwaysCallable test }
     ensures { (P : List ℕ → Bool) → Tests (F.post test) (words_of plan.now) P → result ≡ every P (rows_of plan.now t) }
 {
-    (plan.first_row(t)..plan.end_row(t)).all(test)
+    plan.row_range(t).all(test)
 }

@@ -1,6 +1,7 @@
 -- The last lines of a term as bytes. Assumes nothing.
 use Rattle.std.specs.Prelude.{ℕ, zero, suc, ◌+◌, ◌-◌, ◌≤◌, ◌<◌, ◌≡◌, refl, Bool, true, false, cond, eqb, ltb, drop}
-use Rattle.std.proofs.Common.{◌∙◌, arith, le-ltb, ne_eqb}
+use Rattle.std.specs.List.{filter, fold, range_with_len}
+use Rattle.std.proofs.Common.{sym, ◌∙◌, arith, le-ltb, ne_eqb}
 use Rattle.std.proofs.Math.Path.{ap}
 use mathlib.Core.List.{List, [], ◌∷◌, ◌++◌, append_assoc, append-nil}
 use Rattle.text.specs.Codes.{codes}
@@ -97,3 +98,16 @@ module _ (words rows : List ℕ) (r last : ℕ) (b : Bool) where
   pub returns_end : last ≤ r → ends_in_return b (rows_from words rows last r) ≡ b
   unfolding ends_in_return
   returns_end h = rw (rows_none words rows r last h)
+
+-- the same as a fold over the rows of level 0
+pub returns_fold : (words rows : List ℕ) (last r n : ℕ) (b : Bool) → last - r ≡ n
+    → fold (λ _ x. eqb (nth (cut words rows x) 1) 3) b (filter (λ x. eqb (nth (cut words rows x) 0) 0) (range_with_len r n)) ≡ ends_in_return b (rows_from words rows last r)
+returns_fold words rows last r zero b h = sym (returns_end words rows r last b (omega (arith, h)))
+returns_fold words rows last r (suc n) b h =
+    by_test (eqb (nth (cut words rows r) 0) 0) (filter (λ x. eqb (nth (cut words rows x) 0) 0) (range_with_len (r + 1) n))
+    ∙ returns_fold words rows last (r + 1) n (cond (eqb (nth (cut words rows r) 0) 0) (eqb (nth (cut words rows r) 1) 3) b) (omega (arith, h))
+    ∙ sym (returns_next words rows r last b (omega (arith, h)))
+  where
+    by_test : (t : Bool) (rs : List ℕ) → fold (λ _ x. eqb (nth (cut words rows x) 1) 3) b (cond t (r ∷ rs) rs) ≡ fold (λ _ x. eqb (nth (cut words rows x) 1) 3) (cond t (eqb (nth (cut words rows r) 1) 3) b) rs
+    by_test true rs = refl
+    by_test false rs = refl

@@ -61,6 +61,7 @@ pub fn argument_refs(
     ensures refs { let env = env_of plan.now in set_of context.new.is_ref ≡ argument_refs env (bindings_in plan.now last first) 0 (sig_told env sig).param_tys (set_of context.old.is_ref) }
     ensures same { SameButRefs context.old context.new }
 {
+    // By number: `param_ty` makes a `TypeId` of a word, which a loop over the words would do itself.
     for i in 0..sig.param_count(plan) {
         mark_argument(plan, first, last, i, sig.param_ty(plan, i), context);
     }

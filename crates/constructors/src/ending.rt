@@ -12,17 +12,14 @@ use sema::texts::{Text, put_quoted_text};
 use text::sink::Sink;
 use view::buffers::Plan;
 
-// Does the root, the rows of level 0 from row `first` up to row `last`, end in a return?
+// Does the root, the rows of level 0 from row `first` up to row `last`, end in a return? Two numbers: of a range
+// that is lent the chain would make another.
 pub fn ends_in_return(plan: &Plan<'_>, first: usize, last: usize) -> bool
     ensures { result ≡ ends_in_return false (rows_in plan.now last first) }
 {
-    let mut returns = false;
-    for r in first..last {
-        if plan.word(r, 0) == 0 {
-            returns = plan.is_return(r);
-        }
-    }
-    returns
+    (first..last)
+        .filter(|r| plan.word(*r, 0) == 0)
+        .fold(false, |_, r| plan.is_return(r))
 }
 
 // `last_expr` of codegen.rs 585.

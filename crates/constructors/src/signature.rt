@@ -35,6 +35,7 @@ fn put_argument(w: &mut Sink<'_>, plan: &Plan<'_>, i: usize, ty: TypeId)
 pub fn put_arguments(w: &mut Sink<'_>, plan: &Plan<'_>, sig: ExternalSig)
     ensures { let env = env_of plan.now in Writes (arguments_text env 0 (sig_told env sig).param_tys) w.old w.new }
 {
+    // By number: `param_ty` makes a `TypeId` of a word, which a loop over the words would do itself.
     for i in 0..sig.param_count(plan) {
         put_argument(w, plan, i, sig.param_ty(plan, i));
     }

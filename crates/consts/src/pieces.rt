@@ -17,6 +17,8 @@ pub fn put_var(w: &mut Sink<'_>, binding: usize)
 }
 
 // A line feed, then an indentation of `more` steps beyond `depth`. More than a number can count have no room in any buffer.
+// No `w.put_indent(depth.saturating_add(more))`: tried, and its proof needs that `w.end` is below 2 ^ 64, which of a lent value's field is
+// known only where it is read.
 #[tactic(auto, using(crate::proofs::Laws::writes_byte), unfolding(codegen::specs::Piece::indent))]
 pub fn put_break(w: &mut Sink<'_>, depth: usize, more: usize)
     ensures { Writes (10 ∷ indent (depth + more)) w.old w.new }

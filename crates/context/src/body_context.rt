@@ -1,6 +1,6 @@
-// `BodyContext` of codegen.rs 82: what changes while a term is written, and its steps over a lent state. What changes at each row,
-// `Nesting`, is a value of its own, with steps by value, as the walk over a block's rows calls them: a state with its marks is 2 KiB, and
-// is copied wherever it is passed. What is written where a block begins and ends is in `block`.
+// `BodyContext` of codegen.rs 82: what changes while a term is written, and its steps over a lent state. What changes
+// where a block or a closure begins or ends, `Nesting`, is a value of its own, with steps by value, as the walk over a block's rows calls
+// them: a state with its marks is 2 KiB, and is copied wherever it is passed. What is written there is in `block`.
 ghost use Rattle.std.specs.Prelude.{◌≡◌, ◌+◌, ◌^◌, ◌<◌};
 ghost use Rattle.context.specs.Context.{New, deeper, shallower, counted};
 ghost use Rattle.context.specs.Steps.{Entered, begun, closed, Marked, Named, numbered};

@@ -1,4 +1,5 @@
-// The steps over a whole state by value. Each calls the step that the walk over a block's rows calls.
+// The steps over a whole state by value. The walk over a block's rows calls `enter_scope` of `body_context` and the steps of `Nesting`, which
+// stand here over the whole state; what is a reference or has a name is noted in the marks alone, by `insert`, there and here.
 ghost use Rattle.std.specs.Prelude.{◌≡◌, ◌+◌, ◌^◌, ◌<◌};
 ghost use Rattle.emits.specs.Marks.{set_of};
 ghost use Rattle.context.specs.Context.{SetRef, deeper, shallower, counted};

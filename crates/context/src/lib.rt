@@ -1,4 +1,4 @@
-// What is written around the rows of a block, and what changes from row to row: `BodyContext` of codegen.rs 82.
+// What is written around the rows of a block, and what changes as they are written: `BodyContext` of codegen.rs 82.
 #![tactic(auto)]
 
 pub mod block;

@@ -19,7 +19,7 @@ use view::buffers::Plan;
 use view::environment::FunctionKind;
 use view::tables::TERMS;
 
-// `type_name` of codegen.rs 506.
+// `type_name` of codegen.rs 506, with its parameter `by_ref`: a function for each of its two values would be no plainer than this one.
 #[tactic(auto, using(crate::specs::Shown::shown, crate::proofs::Lists::shows_param), unfolding(codegen::specs::Items::type_name))]
 pub fn type_name(w: &mut Sink<'_>, plan: &Plan<'_>, by_ref: bool, ty: TypeId)
     ensures { let env = env_of plan.now in (d : ℕ) → Shows env d (type_name env by_ref ty.0) w.old w.new }
@@ -41,7 +41,8 @@ pub fn put_separator(w: &mut Sink<'_>, i: usize)
     }
 }
 
-// The results of a signature.
+// The results of a signature. By number, here and in `sig_params`: `ret_ty` and `param_ty` make a `TypeId` of a word, which each loop over the
+// words would do itself.
 fn ret_types(w: &mut Sink<'_>, plan: &Plan<'_>, sig: ExternalSig)
     ensures { let env = env_of plan.now in Shows env 0 (join (type_names env (sig_told env sig).ret_tys)) w.old w.new }
 {

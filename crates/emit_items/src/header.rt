@@ -9,6 +9,7 @@ ghost use Rattle.codegen.specs.Items.{file_lines, pragmas, generate_header};
 use sema::texts::{Text, put_text};
 use text::sink::Sink;
 use view::buffers::Plan;
+use view::tables::FILES;
 
 fn file_line(w: &mut Sink<'_>, plan: &Plan<'_>, i: usize)
     ensures { Shows (env_of plan.now) 0 (fix "// - " refl ∷ file i ∷ break 0 ∷ []) w.old w.new }
@@ -22,7 +23,7 @@ fn file_line(w: &mut Sink<'_>, plan: &Plan<'_>, i: usize)
 fn file_lines(w: &mut Sink<'_>, plan: &Plan<'_>)
     ensures { let env = env_of plan.now in Shows env 0 (file_lines 0 env.files) w.old w.new }
 {
-    for i in 0..plan.row_count(Text::File as usize) {
+    for i in 0..plan.row_count(FILES) {
         file_line(w, plan, i);
     }
 }

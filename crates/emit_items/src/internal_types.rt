@@ -22,81 +22,89 @@ use view::buffers::Plan;
 use view::environment::{Declared, TypeData};
 use view::tables::TYPES;
 
-// The fields of a struct may be `pub`; those of a variant stand one step deeper. What stands before and after fields, and named and tuple
-// fields, are other texts: the functions for them are alike in form alone.
-#[tactic(auto, using(crate::proofs::Lists::at_once), unfolding(codegen::specs::Piece::render, codegen::specs::Piece::bytes, codegen::specs::Piece::indent, text::specs::Sink::spaces))]
-fn field_start(w: &mut Sink<'_>, allow: bool)
-    ensures { (env : Environment) → Shows env 0 (field_start allow) w.old w.new }
-{
-    if allow {
-        w.put_bytes(b"\n    pub ");
-    } else {
-        w.put_bytes(b"\n        ");
-    }
+// Fields as they are written: those of a struct may be `pub`; those of a variant stand one step deeper.
+#[derive(Clone, Copy)]
+struct WrittenFields<'a> {
+    fields: Fields<'a>,
+    allow_pub: bool,
 }
 
-fn named_field(w: &mut Sink<'_>, plan: &Plan<'_>, allow: bool, f: &Fields<'_>, i: usize)
-    ensures { Shows (env_of plan.now) 0 (named_field allow (fields_read f.now) i) w.old w.new }
-{
-    field_start(w, allow);
-    f.put_name(w, plan, i);
-    w.put_bytes(b": ");
-    f.ty(i).put_name(w, plan);
-    w.put_bytes(b",");
-}
-
-fn named_fields(w: &mut Sink<'_>, plan: &Plan<'_>, allow: bool, f: &Fields<'_>)
-    ensures { (fs : List Field) → fields_read f.now ≡ named fs → Shows (env_of plan.now) 0 (named_fields allow (suc (depth allow)) fs) w.old w.new }
-{
-    for i in 0..f.count() {
-        named_field(w, plan, allow, f, i);
-    }
-}
-
-fn tuple_field(w: &mut Sink<'_>, plan: &Plan<'_>, allow: bool, f: &Fields<'_>, i: usize)
-    ensures { Shows (env_of plan.now) 0 (tuple_field allow (fields_read f.now) i) w.old w.new }
-{
-    put_separator(w, i);
-    if allow {
-        w.put_bytes(b"pub ");
-    }
-    f.ty(i).put_name(w, plan);
-}
-
-fn tuple_fields(w: &mut Sink<'_>, plan: &Plan<'_>, allow: bool, f: &Fields<'_>)
-    ensures { (ns : List ℕ) → fields_read f.now ≡ tuple ns → Shows (env_of plan.now) 0 (join (tuple_fields allow ns)) w.old w.new }
-{
-    for i in 0..f.count() {
-        tuple_field(w, plan, allow, f, i);
-    }
-}
-
-#[tactic(auto, using(crate::proofs::Lists::at_once), unfolding(codegen::specs::Piece::render, codegen::specs::Piece::bytes, codegen::specs::Piece::indent, text::specs::Sink::spaces))]
-fn fields_end(w: &mut Sink<'_>, allow: bool)
-    ensures { (env : Environment) → Shows env 0 (break (depth allow) ∷ unbrace ∷ []) w.old w.new }
-{
-    if allow {
-        w.put_bytes(b"\n}");
-    } else {
-        w.put_bytes(b"\n    }");
-    }
-}
-
-// `generate_fields` of codegen.rs 473.
-fn generate_fields(w: &mut Sink<'_>, plan: &Plan<'_>, allow: bool, f: &Fields<'_>)
-    ensures { Shows (env_of plan.now) 0 (generate_fields allow (depth allow) (fields_read f.now)) w.old w.new }
-{
-    match f.shape {
-        Shape::Unit => {}
-        Shape::Named => {
-            w.put_bytes(b" {");
-            named_fields(w, plan, allow, f);
-            fields_end(w, allow);
+// What stands before and after fields, and named and tuple fields, are other texts: the functions for them are alike in form alone.
+impl WrittenFields<'_> {
+    #[tactic(auto, using(crate::proofs::Lists::at_once), unfolding(codegen::specs::Piece::render, codegen::specs::Piece::bytes, codegen::specs::Piece::indent, text::specs::Sink::spaces))]
+    fn field_start(&self, w: &mut Sink<'_>)
+        ensures { (env : Environment) → Shows env 0 (field_start self.now.allow_pub) w.old w.new }
+    {
+        if self.allow_pub {
+            w.put_bytes(b"\n    pub ");
+        } else {
+            w.put_bytes(b"\n        ");
         }
-        Shape::Tuple => {
-            w.put_bytes(b"(");
-            tuple_fields(w, plan, allow, f);
-            w.put_bytes(b")");
+    }
+
+    fn named_field(&self, w: &mut Sink<'_>, plan: &Plan<'_>, i: usize)
+        ensures { Shows (env_of plan.now) 0 (named_field self.now.allow_pub (fields_read self.now.fields) i) w.old w.new }
+    {
+        self.field_start(w);
+        self.fields.put_name(w, plan, i);
+        w.put_bytes(b": ");
+        self.fields.ty(i).put_name(w, plan);
+        w.put_bytes(b",");
+    }
+
+    fn named_fields(&self, w: &mut Sink<'_>, plan: &Plan<'_>)
+        ensures { let a = self.now.allow_pub in (fs : List Field) → fields_read self.now.fields ≡ named fs → Shows (env_of plan.now) 0 (named_fields a (suc (depth a)) fs) w.old w.new }
+    {
+        for i in 0..self.fields.count() {
+            self.named_field(w, plan, i);
+        }
+    }
+
+    fn tuple_field(&self, w: &mut Sink<'_>, plan: &Plan<'_>, i: usize)
+        ensures { Shows (env_of plan.now) 0 (tuple_field self.now.allow_pub (fields_read self.now.fields) i) w.old w.new }
+    {
+        put_separator(w, i);
+        if self.allow_pub {
+            w.put_bytes(b"pub ");
+        }
+        self.fields.ty(i).put_name(w, plan);
+    }
+
+    fn tuple_fields(&self, w: &mut Sink<'_>, plan: &Plan<'_>)
+        ensures { (ns : List ℕ) → fields_read self.now.fields ≡ tuple ns → Shows (env_of plan.now) 0 (join (tuple_fields self.now.allow_pub ns)) w.old w.new }
+    {
+        for i in 0..self.fields.count() {
+            self.tuple_field(w, plan, i);
+        }
+    }
+
+    #[tactic(auto, using(crate::proofs::Lists::at_once), unfolding(codegen::specs::Piece::render, codegen::specs::Piece::bytes, codegen::specs::Piece::indent, text::specs::Sink::spaces))]
+    fn fields_end(&self, w: &mut Sink<'_>)
+        ensures { (env : Environment) → Shows env 0 (break (depth self.now.allow_pub) ∷ unbrace ∷ []) w.old w.new }
+    {
+        if self.allow_pub {
+            w.put_bytes(b"\n}");
+        } else {
+            w.put_bytes(b"\n    }");
+        }
+    }
+
+    // `generate_fields` of codegen.rs 473.
+    fn generate_fields(&self, w: &mut Sink<'_>, plan: &Plan<'_>)
+        ensures { let a = self.now.allow_pub in Shows (env_of plan.now) 0 (generate_fields a (depth a) (fields_read self.now.fields)) w.old w.new }
+    {
+        match self.fields.shape {
+            Shape::Unit => {}
+            Shape::Named => {
+                w.put_bytes(b" {");
+                self.named_fields(w, plan);
+                self.fields_end(w);
+            }
+            Shape::Tuple => {
+                w.put_bytes(b"(");
+                self.tuple_fields(w, plan);
+                w.put_bytes(b")");
+            }
         }
     }
 }
@@ -105,7 +113,7 @@ fn generate_fields(w: &mut Sink<'_>, plan: &Plan<'_>, allow: bool, f: &Fields<'_
 fn all_unit(plan: &Plan<'_>, ty: TypeId) -> bool
     ensures { VariantsIndexed plan.now → result ≡ all_unit (variants_of ty.0 (env_of plan.now).variants) }
 {
-    (0..ty.variant_count(plan)).all(|k| matches!(ty.variant(plan, k).fields.shape, Shape::Unit))
+    (0..ty.variant_count(plan)).all(|k| ty.variant(plan, k).fields.shape == Shape::Unit)
 }
 
 // Copy only where nothing has fields.
@@ -142,7 +150,11 @@ fn variant_line(w: &mut Sink<'_>, plan: &Plan<'_>, ty: TypeId, k: usize)
     let v = ty.variant(plan, k);
     w.put_bytes(b"\n    ");
     put_text(w, plan, Text::Sym, v.name);
-    generate_fields(w, plan, false, &v.fields);
+    let fields = WrittenFields {
+        fields: v.fields,
+        allow_pub: false,
+    };
+    fields.generate_fields(w, plan);
     w.put_bytes(b",");
 }
 
@@ -180,10 +192,14 @@ fn struct_end(w: &mut Sink<'_>, s: Shape)
 fn struct_type(w: &mut Sink<'_>, plan: &Plan<'_>, d: Declared, f: &Fields<'_>)
     ensures { Shows (env_of plan.now) 0 (struct_type (declared_told d) (fields_read f.now)) w.old w.new }
 {
-    type_head(w, plan, d, matches!(f.shape, Shape::Unit));
+    type_head(w, plan, d, f.shape == Shape::Unit);
     w.put_bytes(b"pub struct ");
     put_text(w, plan, Text::Sym, d.name);
-    generate_fields(w, plan, true, f);
+    let fields = WrittenFields {
+        fields: *f,
+        allow_pub: true,
+    };
+    fields.generate_fields(w, plan);
     struct_end(w, f.shape);
 }
 

@@ -18,6 +18,7 @@ use view::tables::OPTIONS;
 pub fn items(w: &mut Sink<'_>, plan: &Plan<'_>)
     ensures { VariantsIndexed plan.now → let p = plan_of plan.now in Shows p.env 0 (items p) w.old w.new }
 {
+    // A single cell is read by its number in the row, in the order of the table's names line.
     let nopragmas = plan.flag(plan.row_at(OPTIONS, 0), 0);
     header::generate_header(w, plan, nopragmas);
     ctx_trait::generate_ctx_trait(w, plan);

@@ -1,6 +1,6 @@
 -- A generated term in the buffers, and its parts one after the other. Assumes nothing.
 use Rattle.std.specs.Prelude as code
-use Rattle.std.specs.Prelude.{ℕ, ◌+◌, ◌*◌, ◌≤◌, ◌<◌, ◌≡◌, refl, Bool, true, false, cond, ◌&&◌, List, [], ◌∷◌, ◌++◌, length, get_or, ltb, Some, None}
+use Rattle.std.specs.Prelude.{ℕ, ◌+◌, ◌≤◌, ◌<◌, ◌≡◌, refl, Bool, true, false, cond, ◌&&◌, List, [], ◌∷◌, ◌++◌, length, get_or, ltb, Some, None}
 use Rattle.std.proofs.Common.{sym, ap, ◌∙◌, arith, ltb-true, ltb-false}
 use Rattle.text.specs.Writes.{Writes, writes_nil, writes_then}
 use Rattle.text.specs.declared.sink.Sink.{Sink}
@@ -18,10 +18,10 @@ use Rattle.codegen.specs.Writer.{Marks}
 use Rattle.codegen.specs.Terms.{argument_refs, signature, ends_in_return, term_end, body_of, no_marks, start, splits, term_parts, all_parts, parts}
 use Rattle.rows.specs.View.{nth, flagged, term_of, options_of, block_of}
 use Rattle.layout.specs.View.{plan_of_tables}
-use Rattle.view.specs.Tables.{table_rows, generated_at, generated_from, plan_in}
+use Rattle.view.specs.Tables.{table_rows, plan_in}
 use Rattle.view.specs.Buffers.{words_of, rows_of, env_of, bindings_in, plan_of}
 use Rattle.view.specs.declared.buffers.Plan.{Plan}
-use Rattle.view.proofs.Plans.{table_of, term_is, generated_is, generated_next, generated_none, environment_is}
+use Rattle.view.proofs.Plans.{table_of, term_is, environment_is}
 use Rattle.splitting.specs.Marks.{with_refs}
 use Rattle.emits.specs.Place.{place, place_here, place_over, count_over}
 use Rattle.emits.specs.Marks.{set_of}
@@ -35,11 +35,11 @@ use Rattle.constructors.specs.Lines.{head_text, arguments_text, result_text, sig
 use Rattle.constructors.specs.Ending.{end_text, end_is, end_odds}
 use Rattle.constructors.specs.Arguments as argument
 use Rattle.schedule_rules.specs.Passes.{Each, every_each}
+use Rattle.checks.specs.Terms as generated
 use Rattle.checks.specs.Tests.{tables_at, generated_of}
 use Rattle.checks.specs.declared.tables.GeneratedTables.{GeneratedTables}
 use Rattle.checks.proofs.Every.{every_map, every_same}
-use Rattle.checks.proofs.Tests.{terms_count}
-use Rattle.row_frames.specs.Rows.{rows_from, Shallow, shallow_rows}
+use Rattle.row_frames.specs.Rows.{Shallow, shallow_rows}
 use Rattle.view.specs.BlockRows.{level_is}
 use Rattle.body.specs.Told.{env_in, bindings_of, rows_in, body_told, splits_above}
 use Rattle.body.specs.Walks.{WritesParts, parts_then, parts_text, WritesWalk}
@@ -77,10 +77,6 @@ module _ (p : Plan) (t : ℕ) {first last : ℕ} where
   unfolding table_rows
   bindings_are h g = rw (h, g)
 
-  pub rows_are : first ≡ get_or p.tables.now t 0 → last ≡ get_or p.tables.now (t + 1) 0 → rows_from p.words.now p.rows.now last first ≡ block_in p t
-  unfolding table_rows
-  rows_are h g = rw (h, g)
-
   pub started : {sig : ExternalSig} {new context : BodyContext} → New new → SameButRefs new context → first ≡ get_or p.tables.now t 0 → last ≡ get_or p.tables.now (t + 1) 0
       → set_of context.is_ref ≡ argument_refs (env_of p) (argument.bindings_in p last first) 0 (sig_told (env_of p) sig).param_tys (set_of new.is_ref) → Started p t sig context
   started n m a b r = record { refs = r ∙ rw (bindings_are a b, n.refs); bound = ap set_of m.bound ∙ n.bound; nesting = m.nesting ∙ n.nesting }
@@ -105,18 +101,18 @@ arguments_are : (x : sema.ExternalSig) (m : Term) → x ≡ constructor_sig m �
 unfolding constructor_sig
 arguments_are x m h = ap (λ (x : sema.ExternalSig). x.param_tys) h
 
-module _ {b : Body} {block : ℕ} {sig : ExternalSig} {s : BodyContext} {first last : ℕ} {w w' : Sink} (st : Started b.plan.now b.bindings sig s) (q : rows_in b last first ≡ block_in b.plan.now block) where
-  body_written : (m : ℕ) → m ≤ 64 → (Each (λ r. level r < 64) (block_in b.plan.now block) → Each (λ r. level r < m) (block_in b.plan.now block)) → BlockWritten b first last (m + 1) s.is_ref s.is_bound w w' → BodyWritten b block sig w w'
+module _ {b : Body} {block : ℕ} {sig : ExternalSig} {s : BodyContext} {first last : ℕ} {w w' : Sink} (st : Started b.bindings.plan.now b.bindings.table sig s) (q : rows_in b last first ≡ block_in b.bindings.plan.now block) where
+  body_written : (m : ℕ) → m ≤ 64 → (Each (λ r. level r < 64) (block_in b.bindings.plan.now block) → Each (λ r. level r < m) (block_in b.bindings.plan.now block)) → BlockWritten b first last (m + 1) s.is_ref s.is_bound w w' → BodyWritten b block sig w w'
   unfolding start with_refs standing
   body_written m u e x = record {
     is = λ sp n v f y h.
-        let shallow : Shallow b.plan.now.words.now b.plan.now.rows.now first last (m + 1) = shallow_rows _ _ first last m u (rw q (e f.shallow)) in
+        let shallow : Shallow b.bindings.plan.now.words.now b.bindings.plan.now.rows.now first last (m + 1) = shallow_rows _ _ first last m u (rw q (e f.shallow)) in
         let refs : set_of s.is_ref ≡ argument_refs (env_in b) (bindings_of b) 0 (term_at (env_in b) n).arg_tys no_marks = st.refs ∙ ap (λ (ts : List ℕ). argument_refs (env_in b) (bindings_of b) 0 ts no_marks) (arguments_are _ _ h) in
         walk_parts (rw (q, st.bound, refs) at (x.is sp (record { indexed = v; lower = f.lower }) y shallow));
   }
 
-  pub few_written : every below_eight (block_in b.plan.now block) ≡ true → BlockWritten b first last 9 s.is_ref s.is_bound w w' → BodyWritten b block sig w w'
-  few_written t = body_written 8 (omega arith) (λ f. every_each below_eight (λ r. level r < 8) (λ r. ltb-true (level r) 8) (block_in b.plan.now block) t)
+  pub few_written : every below_eight (block_in b.bindings.plan.now block) ≡ true → BlockWritten b first last 9 s.is_ref s.is_bound w w' → BodyWritten b block sig w w'
+  few_written t = body_written 8 (omega arith) (λ f. every_each below_eight (λ r. level r < 8) (λ r. ltb-true (level r) 8) (block_in b.bindings.plan.now block) t)
 
   pub all_written : BlockWritten b first last 65 s.is_ref s.is_bound w w' → BodyWritten b block sig w w'
   all_written = body_written 64 (omega arith) (λ f. f)
@@ -164,45 +160,33 @@ module _ {o : plan.Options} {x : Options} (u : OptionsTold o x) (b : Body) (n bl
 
   -- the signature, the block, the last lines
   pub term_written : {w w₁ w₂ w₃ : Sink} → b.log ≡ x.log → b.term_name ≡ (term_at (env_in b) n).name → b.threshold ≡ by_return_kind (return_kind_told sig.ret_kind) x.threshold None None
-      → VariantsIndexed b.plan.now → TermFits (term_in b n block)
+      → VariantsIndexed b.bindings.plan.now → TermFits (term_in b n block)
       → Writes (text_of (env_in b) (signature (env_in b) (term_at (env_in b) n))) w w₁ → BodyWritten b block sig w₁ w₂
-      → ((constructor_sig (term_at (env_in b) n)).ret_kind ≡ return_kind_told b.ret_kind → b.term_name ≡ (term_at (env_in b) n).name → Writes (text_of (env_in b) (term_end (term_at (env_in b) n) (block_in b.plan.now block))) w₂ w₃)
+      → ((constructor_sig (term_at (env_in b) n)).ret_kind ≡ return_kind_told b.ret_kind → b.term_name ≡ (term_at (env_in b) n).name → Writes (text_of (env_in b) (term_end (term_at (env_in b) n) (block_in b.bindings.plan.now block))) w₂ w₃)
       → WritesParts (env_in b) (term_parts o (env_in b) (term_in b n block)) w w₃
   unfolding term_parts
   term_written l m h v f y z e =
       parts_then (parts_text (signature_odds (env_in b) _) y)
-      (parts_then (rw (told_body l m) at (z.is (splits o (env_in b) (term_in b n block)) n v f (splitting h) q)) (parts_text (end_odds _ (block_in b.plan.now block)) (e (sym kind_is) m)))
+      (parts_then (rw (told_body l m) at (z.is (splits o (env_in b) (term_in b n block)) n v f (splitting h) q)) (parts_text (end_odds _ (block_in b.bindings.plan.now block)) (e (sym kind_is) m)))
 
--- the generated terms from number i on
-abbrev terms_from : Plan → ℕ → List Generated
-terms_from p i = generated_from p.words.now p.rows.now p.tables.now (7 + 3 * i)
+-- THE LOOP over the terms
 
-terms_here : (p : Plan) (i : ℕ) (g : GeneratedTables) → g ≡ tables_at i → i < length (plan_of p).generated → terms_from p i ≡ generated_of p g ∷ terms_from p (i + 1)
-unfolding generated_at
-terms_here p i g at h =
-    let z : 7 + 3 * i + 3 ≡ 7 + 3 * (i + 1) = omega arith in
-    rw (at, generated_next p.words.now p.rows.now p.tables.now (7 + 3 * i) (omega (arith, terms_count p)), z) refl
+-- what is left to write, from term i on, ends where the whole does
+abbrev pub TermsWritten : Plan → List Generated → Sink → Sink → Type 0
+TermsWritten p gs = WritesParts (env_of p) (all_parts (plan_of p).options (env_of p) gs)
 
--- THE LOOP over the terms: what is left to write, from term i on, ends where the whole does
-
-pub record TermsLeft (p : Plan) (w₀ : Sink) (i : ℕ) (w : Sink) : Type 0 where
-  pub fits : Each TermFits (terms_from p i)
-  pub ends : (w' : Sink) → WritesParts (env_of p) (all_parts (plan_of p).options (env_of p) (terms_from p i)) w w' → WritesParts (env_of p) (parts (plan_of p)) w₀ w'
+abbrev pub TermsLeft : Plan → Sink → ℕ → Sink → Type 0
+TermsLeft p = generated.TermsLeft p (Each TermFits) (TermsWritten p)
 
 module _ {p : Plan} {w₀ : Sink} where
   pub terms_start : PlanFits (plan_of p) → TermsLeft p w₀ 0 w₀
-  terms_start f =
-      let g = generated_is p.words.now p.rows.now p.tables.now p.bytes.now in
-      record { fits = rw g at f.terms; ends = λ w' x. rw (g, environment_is p.words.now p.rows.now p.tables.now p.bytes.now) x }
+  terms_start f = generated.terms_start f.terms
 
   module _ {i : ℕ} {w : Sink} (l : TermsLeft p w₀ i w) where
     pub terms_next : {w' : Sink} {g : GeneratedTables} → i < length (plan_of p).generated → g ≡ tables_at i → (TermFits (generated_of p g) → WritesParts (env_of p) (term_parts (plan_of p).options (env_of p) (generated_of p g)) w w') → TermsLeft p w₀ (i + 1) w'
     unfolding all_parts
-    terms_next {g = g} h at x =
-        let next : terms_from p i ≡ generated_of p g ∷ terms_from p (i + 1) = terms_here p i g at h in
-        let f = rw next at l.fits in
-        record { fits = f.1; ends = λ w₂ y. l.ends w₂ (rw next (parts_then (x f.0) y)) }
+    terms_next h at x = generated.terms_next l at h (λ gs f. (f.1, λ w₂ y. parts_then (x f.0) y))
 
     pub terms_done : length (plan_of p).generated ≤ i → WritesParts (env_of p) (parts (plan_of p)) w₀ w
     unfolding all_parts odds_of text_of
-    terms_done h = l.ends w (rw (generated_none p.words.now p.rows.now p.tables.now (7 + 3 * i) (omega (arith, terms_count p))) (parts_text refl writes_nil))
+    terms_done h = rw (environment_is p.words.now p.rows.now p.tables.now p.bytes.now) (generated.terms_done l h (parts_text refl writes_nil))

@@ -46,9 +46,9 @@ block_in p block = map block_of (rows_of p block)
 
 -- the generated term of a body, which is term n and whose block is in a table
 abbrev pub term_in : Body → ℕ → ℕ → Generated
-term_in b n block = record { term = n; bindings = bindings_of b; rows = block_in b.plan.now block }
+term_in b n block = record { term = n; bindings = bindings_of b; rows = block_in b.bindings.plan.now block }
 
 -- the block in this table is written, for a generated term with this signature
 pub record BodyWritten (b : Body) (block : ℕ) (sig : ExternalSig) (w w' : Sink) : Type 0 where
-  pub is : (splits : ℕ → Bool) (n : ℕ) → VariantsIndexed b.plan.now → TermFits (term_in b n block) → Splitting splits b.threshold → sig_told (env_in b) sig ≡ constructor_sig (term_at (env_in b) n)
-      → WritesParts (env_in b) (walk (body_told b) splits (start (env_in b) (term_in b n block)) 0 (block_in b.plan.now block)) w w'
+  pub is : (splits : ℕ → Bool) (n : ℕ) → VariantsIndexed b.bindings.plan.now → TermFits (term_in b n block) → Splitting splits b.threshold → sig_told (env_in b) sig ≡ constructor_sig (term_at (env_in b) n)
+      → WritesParts (env_in b) (walk (body_told b) splits (start (env_in b) (term_in b n block)) 0 (block_in b.bindings.plan.now block)) w w'

@@ -17,7 +17,7 @@ pub struct Options {
 }
 
 impl Options {
-    // They are the row of the plan's first table.
+    // They are the row of the plan's first table, each read by its number in the row, in the order of the table's names line.
     #[tactic(auto, using(crate::specs::Term::options_told))]
     pub fn read(plan: &Plan<'_>) -> Options
         ensures { OptionsTold (plan_of plan.now).options result }
@@ -34,7 +34,6 @@ impl Options {
     pub(super) fn threshold_of(self, kind: ReturnKind) -> Option<usize>
         ensures { result ≡ by_return_kind (return_kind_told kind) self.threshold None None }
     {
-        self.threshold
-            .filter(|_| matches!(kind, ReturnKind::Iterator))
+        self.threshold.filter(|_| kind == ReturnKind::Iterator)
     }
 }

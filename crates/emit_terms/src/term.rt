@@ -16,7 +16,7 @@ ghost use Rattle.body.specs.Walks.{WritesParts};
 ghost use Rattle.emit_terms.specs.Accepted.{TermFits, PlanFits};
 ghost use Rattle.emit_terms.specs.Told.{OptionsTold, block_in};
 
-use super::block::{block_rows, emit_body};
+use super::block::emit_body;
 use super::options::Options;
 use body::Body;
 use checks::tables::{GeneratedTables, generated_count, generated_tables};
@@ -24,10 +24,11 @@ use constructors::ending::{ends_in_return, put_end};
 use constructors::signature::{put_arguments, put_head, put_result};
 use sema::signature::{ExternalSig, TermId};
 use text::sink::Sink;
+use view::bindings::Bindings;
 use view::buffers::Plan;
 use view::tables::TERMS;
 
-// The word k of row n of table t.
+// The word k of row n of table t. Single cells are read by their number in the row, in the order of the table's names line.
 fn table_word(plan: &Plan<'_>, t: usize, n: usize, k: usize) -> usize
     ensures { result ≡ nth (get_or (rows_of plan.now t) n []) k }
 {
@@ -44,13 +45,13 @@ pub fn emit_signature(w: &mut Sink<'_>, plan: &Plan<'_>, sig: ExternalSig, name:
 }
 
 // The last lines of a term, whose block is in a table.
-#[tactic(auto, using(crate::specs::Term::end_written, crate::specs::Term::term_pos))]
+#[tactic(auto, using(crate::specs::Term::end_written, crate::specs::Term::term_pos, checks::specs::Terms::block_rows))]
 fn emit_end(w: &mut Sink<'_>, body: &Body<'_>, block: usize, term: TermId)
-    ensures { let b = body.now in let m = term_at (env_in b) term.0 in (constructor_sig m).ret_kind ≡ return_kind_told b.ret_kind → b.term_name ≡ m.name → Writes (text_of (env_in b) (term_end m (block_in b.plan.now block))) w.old w.new }
+    ensures { let b = body.now in let m = term_at (env_in b) term.0 in (constructor_sig m).ret_kind ≡ return_kind_told b.ret_kind → b.term_name ≡ m.name → Writes (text_of (env_in b) (term_end m (block_in b.bindings.plan.now block))) w.old w.new }
 {
-    let plan = body.plan;
-    let (first, last) = block_rows(plan, block);
-    let returns = ends_in_return(plan, first, last);
+    let plan = body.bindings.plan;
+    let rows = plan.row_range(block);
+    let returns = ends_in_return(plan, rows.start, rows.end);
     let pos = table_word(plan, TERMS, term.0, 1);
     put_end(w, plan, returns, body.ret_kind, body.term_name, pos);
 }
@@ -59,12 +60,14 @@ fn emit_end(w: &mut Sink<'_>, body: &Body<'_>, block: usize, term: TermId)
 pub fn emit_term(w: &mut Sink<'_>, plan: &Plan<'_>, options: Options, tables: GeneratedTables)
     ensures { let g = generated_of plan.now tables in (o : definition.Options) → VariantsIndexed plan.now → OptionsTold o options → TermFits g → WritesParts (env_of plan.now) (term_parts o (env_of plan.now) g) w.old w.new }
 {
-    let term = TermId(table_word(plan, tables.term, 0, 0));
+    let term = TermId(tables.number(plan));
     let name = table_word(plan, TERMS, term.0, 0);
     let sig = term.constructor_sig(plan);
     let body = Body {
-        plan,
-        bindings: tables.bindings,
+        bindings: Bindings {
+            plan,
+            table: tables.bindings,
+        },
         log: options.log,
         ret_kind: sig.ret_kind,
         term_name: name,

@@ -1,4 +1,5 @@
 // `StableSet` of stablemapset.rs, for the numbers of bindings: 1,024 marks, lent as a slice.
+// Marks are slices of any length: a set that has 1,024 would ask more of those who lend fewer.
 // Contracts speak of the set through `set_of` (specs/Marks.antt) alone.
 ghost use Rattle.std.specs.Prelude.{◌≡◌, not};
 ghost use Rattle.codegen.specs.Writer.{contains, insert};
@@ -21,7 +22,8 @@ pub fn contains(set: &[bool], binding: usize) -> bool
     set.get(binding).copied().unwrap_or(false)
 }
 
-// Whether it was not in the set before. A binding that has no place in the set changes nothing.
+// Whether it was not in the set before. A binding that has no place in the set changes nothing. By index: `get_mut` was tried,
+// and the library says nothing of what the slice ends as.
 #[tactic(auto, unfolding(crate::specs::Marks::set_of))]
 pub fn insert(set: &mut [bool], binding: usize) -> bool
     ensures marks { set_of set.new ≡ insert (set_of set.old) binding }

@@ -6,17 +6,17 @@ ghost use Rattle.std.proofs.lemmas.List.Edits.{sets};
 ghost use Rattle.codegen.specs.Answer.{answer, terms_answer};
 ghost use Rattle.emitter.specs.Answered.{number_of, length_of, count_of, items_answer, Exports};
 
-use super::Text;
+use super::{Numbers, Text};
 use refusal::Refusal;
 
 // A C function answers a number, and has no `Result`.
 fn tell(r: Result<Text, Refusal>, told: &mut [usize]) -> u32
     ensures { (result ≡ number_of r) × (told.new ≡ sets told.old 0 (length_of r ∷ count_of r ∷ [])) }
 {
-    let text = r.unwrap_or_default();
+    let numbers = Numbers::from(r);
     let n = told.len().min(2);
-    told[..n].copy_from_slice(&[text.length, text.count][..n]);
-    r.err().map_or(0, u32::from)
+    told[..n].copy_from_slice(&[numbers.length, numbers.count][..n]);
+    numbers.number
 }
 
 // The whole module.

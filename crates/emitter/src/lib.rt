@@ -10,7 +10,7 @@ ghost use Rattle.plan.specs.Plan as definition;
 ghost use Rattle.plan.specs.Refusal.{accepted};
 ghost use Rattle.codegen.specs.Answer.{answer, terms_answer};
 ghost use Rattle.reader.specs.Reading.{Enough, Room};
-ghost use Rattle.emitter.specs.Answered.{Answers, items_answer};
+ghost use Rattle.emitter.specs.Answered.{number_of, length_of, count_of, Answers, items_answer};
 ghost use Rattle.emitter.specs.Held.{HeldIn, form_text, form_count, answer_in, form_answer};
 ghost use Rattle.emitter.specs.Texts.{Starts, WritesText, Measured};
 
@@ -25,6 +25,27 @@ use view::buffers::Plan;
 pub struct Text {
     pub length: usize,
     pub count: usize,
+}
+
+// The numbers of an answer: a text has the number 0; a refusal has its own, and the length and the count 0.
+#[derive(Clone, Copy, Debug, PartialEq, Eq)]
+pub struct Numbers {
+    pub number: u32,
+    pub length: usize,
+    pub count: usize,
+}
+
+impl From<Result<Text, Refusal>> for Numbers {
+    ghost from_gives = { λ r n. (n.number ≡ number_of r) × (n.length ≡ length_of r) × (n.count ≡ count_of r) };
+
+    fn from(r: Result<Text, Refusal>) -> Numbers {
+        let text = r.unwrap_or_default();
+        Numbers {
+            number: r.err().map_or(0, u32::from),
+            length: text.length,
+            count: text.count,
+        }
+    }
 }
 
 // Which text is asked for: all of it, the generated terms alone, or what stands before them.

@@ -43,7 +43,8 @@ pub fn read(
 
 // How many rows table t has.
 pub fn row_count(plan: &Plan<'_>, t: usize) -> usize
-    ensures { (result ≡ length (rows_of plan.now t)) × (result < 4294967296) }
+    ensures own { (result ≡ length (rows_of plan.now t)) × (result < 4294967296) }
+    ensures any { (words rows : List ℕ) → result ≡ length (table_rows words rows plan.now.tables.now t) }
 {
     plan.row_count(t)
 }

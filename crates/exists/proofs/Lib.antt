@@ -1,3 +1,4 @@
 pub mod Sorts
 pub mod Rows
 pub mod Judged
+pub mod Bytes

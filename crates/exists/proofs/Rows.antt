@@ -1,6 +1,6 @@
 -- Refusals 5 and 6 from rows to generated terms. Assumes nothing.
 use Prim.Native.Nat.{ℕ, suc}
-use mathlib.Core.Path.{◌≡◌, refl, sym, ap, ◌∙◌}
+use mathlib.Core.Path.{◌≡◌, refl, ap, ◌∙◌}
 use mathlib.Core.Bool.{Bool, true, false, ◌&&◌}
 use mathlib.Core.List.{List, [], ◌∷◌, map}
 use lib.Dec.{eqb, ltb}
@@ -8,11 +8,12 @@ use lib.ListN.{length, get_or, drop, length-map}
 use Rattle.literal.specs.BuiltinType.{all}
 use Rattle.plan.specs.Plan.{Environment}
 use Rattle.plan.specs.Layout.{builtins}
+use Rattle.plan.specs.Lookup.{term_at}
 use Rattle.plan.specs.Refusal.{every, type_refers, variant_refers, term_refers, constructor_exists, row_refers, generated_refers, all_exist, pattern_count, arm_length_fits, lengths_fit}
 use Rattle.rows.specs.View.{nth, type_of, variant_of, term_of, patterns_in, binding_of, block_of}
 use Rattle.view.specs.Tables.{table_rows, environment_in, plan_in}
 use Rattle.view.specs.Told.{constraint_of}
-use Rattle.view.proofs.Plans.{environment_is, types_are, variants_are, terms_are, term_is}
+use Rattle.view.proofs.Plans.{environment_is, types_are, variants_are, terms_are}
 use Rattle.exists.specs.Ready.{binding_row_refers, binding_length_fits, generated_fits}
 use Rattle.checks.proofs.Every.{every_map, every_append}
 
@@ -41,15 +42,14 @@ module _ (plan words rows tables : List ℕ) where
 
   -- a generated term, its bindings and its block in three tables
   pub generated_tests : (t b k : ℕ) → generated_refers e (record { term = nth (get_or (rows_of t) 0 []) 0; bindings = map binding_of (rows_of b); rows = map block_of (rows_of k) })
-      ≡ (let m = nth (get_or (rows_of t) 0 []) 0 in let args = length (drop 8 (get_or (rows_of 6) m [])) in let n = length (rows_of b) in
+      ≡ (let m = nth (get_or (rows_of t) 0 []) 0 in let args = length (term_at e m).arg_tys in let n = length (rows_of b) in
       constructor_exists e m && (every (λ ws. binding_row_refers e args n (binding_of ws)) (rows_of b) && every (λ ws. row_refers e n (block_of ws)) (rows_of k)))
-  unfolding generated_refers term_of
+  unfolding generated_refers
   generated_tests t b k =
       let m = nth (get_or (rows_of t) 0 []) 0 in
       rw (
         length-map (rows_of b) binding_of,
-        term_is words rows tables plan m,
-        every_map (binding_row_refers e (length (drop 8 (get_or (rows_of 6) m []))) (length (rows_of b))) binding_of (rows_of b),
+        every_map (binding_row_refers e (length (term_at e m).arg_tys) (length (rows_of b))) binding_of (rows_of b),
         every_map (row_refers e (length (rows_of b))) block_of (rows_of k),
       ) refl
 
@@ -70,16 +70,9 @@ module _ (plan words rows tables : List ℕ) where
   abbrev fits : ℕ → ℕ → Bool
   fits b k = generated_fits e (record { term = 0; bindings = map binding_of (rows_of b); rows = map block_of (rows_of k) })
 
-  fits_tests : (b k : ℕ) → fits b k
+  pub fits_tests : (b k : ℕ) → fits b k
       ≡ (every (λ ws. binding_length_fits e (binding_of ws)) (rows_of b) && every (λ ws. arm_length_fits e (block_of ws)) (rows_of k))
   fits_tests b k = rw (every_map (binding_length_fits e) binding_of (rows_of b), every_map (arm_length_fits e) block_of (rows_of k)) refl
-
-  pub fits_both : (b k : ℕ) (r : Bool) → true ≡ every (λ ws. binding_length_fits e (binding_of ws)) (rows_of b)
-      → r ≡ every (λ ws. arm_length_fits e (block_of ws)) (rows_of k) → r ≡ fits b k
-  fits_both b k r p q = q ∙ sym (fits_tests b k ∙ rw (← p) refl)
-
-  pub fits_first : (b k : ℕ) → false ≡ every (λ ws. binding_length_fits e (binding_of ws)) (rows_of b) → false ≡ fits b k
-  fits_first b k p = sym (fits_tests b k ∙ rw (← p) refl)
 
   pub fits_plan : lengths_fit (plan_in plan words rows tables) ≡ every (generated_fits e) (plan_in plan words rows tables).generated
   unfolding lengths_fit

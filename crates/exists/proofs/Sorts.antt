@@ -4,17 +4,18 @@ use mathlib.Core.Path.{◌≡◌, refl, sym, ap, ◌∙◌}
 use mathlib.Core.Logic.{inl, inr}
 use mathlib.Core.Bool.{Bool, true, false, cond, ◌&&◌}
 use mathlib.Core.List.{List, ◌∷◌, map}
-use Rattle.std.specs.Prelude.{Option, Some, None}
-use Rattle.std.specs.Option.{option_map}
+use Rattle.std.specs.Prelude.{Option, Some, None, MatchOption}
+use Rattle.std.specs.Option.{option_map, unwrap_or}
 use Rattle.std.specs.List.{filter, range_with_len, slice_get}
 use native.Mathlib.Omega.{arith}
 use lib.Dec.{eqb, ltb}
 use lib.ListN.{length, get_or, get_or-eq_default}
 use borrow.Author.Tests.{le-ltb, ltb-true}
+use Rattle.literal.specs.declared.builtin_type.BuiltinType.{BuiltinType}
 use Rattle.literal.specs.declared.builtin_type.BuiltinType.TheVariants as builtin
 use Rattle.plan.specs.Plan.{Environment, TypeData, Builtin, unit, Variant}
 use Rattle.plan.specs.Lookup.{type_at, variants_of, variant_at, fields_of, field_count}
-use Rattle.plan.specs.Refusal.{type_exists, is_enum, is_struct, enum_exists, struct_exists}
+use Rattle.plan.specs.Refusal.{type_exists, is_enum, enum_exists}
 use Rattle.rows.specs.View.{nth, variant_of}
 use Rattle.layout.specs.View.{cut, cuts}
 use Rattle.view.specs.Tables.{table_rows, environment_in}
@@ -22,17 +23,27 @@ use Rattle.view.proofs.Laws.{table_length}
 use Rattle.view.proofs.Plans.{types_count, builtin_is, variants_are}
 use Rattle.variants.proofs.Variants.{numbers_count, number_at}
 use Rattle.view.specs.Buffers.{Undeclared}
-use Rattle.exists.specs.Ready.{Ready}
+use Rattle.view.specs.Told.{type_told}
+use Rattle.view.specs.declared.environment.TypeData as declared
+use Rattle.exists.specs.Ready.{Ready, Declares}
 
 and_false : (a : Bool) → false ≡ (a && false)
 and_false true = refl
 and_false false = refl
 
-pub enum_found : (e : Environment) (n : ℕ) (t : TypeData) → type_exists e n ≡ true → type_at e n ≡ t → enum_exists e n ≡ is_enum t
-enum_found e n t h q = rw (h, q) refl
+-- a test of what type n is, where the plan declares it; it fails at the builtin types
+module _ (plan words rows tables : List ℕ) (n : ℕ) (P : TypeData → Bool) (builtin_fails : (t : BuiltinType) → P (Builtin t) ≡ false) where
+  abbrev of_plan : Environment
+  of_plan = environment_in plan words rows tables
 
-pub struct_found : (e : Environment) (n : ℕ) (t : TypeData) → type_exists e n ≡ true → type_at e n ≡ t → struct_exists e n ≡ is_struct t
-struct_found e n t h q = rw (h, q) refl
+  none_there : Undeclared of_plan n → false ≡ (type_exists of_plan n && P (type_at of_plan n))
+  none_there (inl h) = rw (builtin_is words rows tables plan n h, builtin_fails) (and_false (ltb n (length of_plan.types)))
+  none_there (inr h) = rw (le-ltb n (length of_plan.types) h) refl
+
+  pub type_tested : (t : Option declared.TypeData) (x : Bool) {Answers : declared.TypeData → Type 0} → Declares of_plan n t → MatchOption t (x ≡ false) Answers
+      → ((t : declared.TypeData) (ws : List ℕ) → Answers t → x ≡ P (type_told t ws)) → x ≡ (type_exists of_plan n && P (type_at of_plan n))
+  type_tested None x h q k = q ∙ none_there h
+  type_tested (Some t) x h q k = k t h.1.0 q ∙ rw (h.0, ← h.1.1) refl
 
 -- how many fields the variant k of type n has in a list of variants
 abbrev nothing : Variant
@@ -41,22 +52,20 @@ nothing = record { ty = 0; name = 0; fields = unit }
 abbrev pub count_at : ℕ → List Variant → ℕ → ℕ
 count_at n vs k = field_count (get_or (variants_of n vs) k nothing).fields
 
--- the same by the row of the variant
-abbrev pub count_by : List ℕ → List ℕ → Option ℕ → ℕ
-count_by words rows None = 0
-count_by words rows (Some r) = field_count (variant_of (cut words rows r)).fields
-
--- the rows of the variants of type n, of m rows from row i on
+-- the rows of the variants of type n, of m rows from row i on, and how many fields each has
 abbrev pub rows_of_type : List ℕ → List ℕ → ℕ → ℕ → ℕ → List ℕ
 rows_of_type words rows n i m = filter (λ r. eqb (nth (cut words rows r) 0) n) (range_with_len i m)
 
+abbrev pub counts_of_type : List ℕ → List ℕ → ℕ → ℕ → ℕ → List ℕ
+counts_of_type words rows n i m = map (λ r. field_count (variant_of (cut words rows r)).fields) (rows_of_type words rows n i m)
+
 module _ (words rows : List ℕ) (n : ℕ) where
-  pub count_row : (i m k : ℕ) → count_by words rows (slice_get (rows_of_type words rows n i m) k) ≡ count_at n (map variant_of (cuts words rows i m)) k
+  pub count_row : (i m k : ℕ) → unwrap_or (slice_get (counts_of_type words rows n i m) k) 0 ≡ count_at n (map variant_of (cuts words rows i m)) k
   unfolding variants_of variant_of cuts
   count_row i zero k = refl
   count_row i (suc m) k = by_test (eqb (nth (cut words rows i) 0) n) k (count_row (i + 1) m) where
-    by_test : (b : Bool) (k : ℕ) → ((k : ℕ) → count_by words rows (slice_get (rows_of_type words rows n (i + 1) m) k) ≡ count_at n (map variant_of (cuts words rows (i + 1) m)) k)
-        → count_by words rows (slice_get (cond b (i ∷ rows_of_type words rows n (i + 1) m) (rows_of_type words rows n (i + 1) m)) k)
+    by_test : (b : Bool) (k : ℕ) → ((k : ℕ) → unwrap_or (slice_get (counts_of_type words rows n (i + 1) m) k) 0 ≡ count_at n (map variant_of (cuts words rows (i + 1) m)) k)
+        → unwrap_or (slice_get (map (λ r. field_count (variant_of (cut words rows r)).fields) (cond b (i ∷ rows_of_type words rows n (i + 1) m) (rows_of_type words rows n (i + 1) m))) k) 0
         ≡ field_count (get_or (cond b (variant_of (cut words rows i) ∷ variants_of n (map variant_of (cuts words rows (i + 1) m))) (variants_of n (map variant_of (cuts words rows (i + 1) m)))) k nothing).fields
     by_test true zero more = refl
     by_test true (suc k) more = more k
@@ -65,17 +74,6 @@ module _ (words rows : List ℕ) (n : ℕ) where
 module _ (plan words rows tables : List ℕ) (n : ℕ) where
   abbrev e : Environment
   e = environment_in plan words rows tables
-
-  -- any other is no enum and no struct
-  none_there : Undeclared e n → (enum_exists e n ≡ false) × (struct_exists e n ≡ false)
-  none_there (inl h) = rw (builtin_is words rows tables plan n h) (sym (and_false (ltb n (length e.types))), sym (and_false (ltb n (length e.types))))
-  none_there (inr h) = rw (le-ltb n (length e.types) h) (refl, refl)
-
-  pub enum_missing : Undeclared e n → enum_exists e n ≡ false
-  enum_missing h = (none_there h).0
-
-  pub struct_missing : Undeclared e n → struct_exists e n ≡ false
-  struct_missing h = (none_there h).1
 
   pub variants_found : {index : List ℕ} → Ready words rows tables index → enum_exists e n ≡ true → length (cut index index n) ≡ length (variants_of n e.variants)
   variants_found r q = ap length (r.index_is.numbers n (small (ltb n (length e.types)) refl q)) ∙ numbers_count plan words rows tables n where
@@ -89,12 +87,12 @@ module _ (plan words rows tables : List ℕ) (n : ℕ) where
   fields_undeclared (inl h) = rw (builtin_is words rows tables plan n h)
   fields_undeclared (inr h) = ap (λ t. field_count (fields_of t)) (sym (get_or-eq_default e.types (Builtin builtin.Bool) h))
 
-  -- a variant's fields, by the row that is the k-th of its type's
-  pub count_found : (i m k : ℕ) (r : Option ℕ) → i ≡ get_or tables 5 0 → m ≡ get_or tables 6 0 → option_map (λ x. x) r ≡ slice_get (rows_of_type words rows n i (m - i)) k
-      → count_by words rows r ≡ field_count (variant_at e n k).fields
+  -- the fields of the variant that is the k-th of its type's
+  pub count_found : (i m k : ℕ) (r : Option ℕ) → i ≡ get_or tables 5 0 → m ≡ get_or tables 6 0 → option_map (λ x. x) r ≡ slice_get (counts_of_type words rows n i (m - i)) k
+      → unwrap_or r 0 ≡ field_count (variant_at e n k).fields
   unfolding table_rows
   count_found i m k r p q h = same r ∙ rw (h, count_row words rows n i (m - i) k, variants_are words rows tables plan, p, q) refl where
-    same : (r : Option ℕ) → count_by words rows r ≡ count_by words rows (option_map (λ x. x) r)
+    same : (r : Option ℕ) → unwrap_or r 0 ≡ unwrap_or (option_map (λ x. x) r) 0
     same None = refl
     same (Some r) = refl
 

@@ -10,6 +10,7 @@ use checks::list::{fields_below, list_below};
 use rows::kinds::Shape;
 use view::buffers::Plan;
 use view::environment::{Declared, FunctionKind, TypeData};
+use view::heads::{TERM_HEAD, TYPE_HEAD, VARIANT_HEAD};
 
 // Whether all that a shape's fields name exists; they are in a row's list.
 fn fields_exist(plan: &Plan<'_>, s: Shape, list: &[u32]) -> bool
@@ -38,7 +39,7 @@ pub(crate) fn type_refers(plan: &Plan<'_>, r: usize) -> bool
         TypeData::Primitive(n) => n < sym_count(plan),
         TypeData::Enum(d) => declared_exists(plan, d),
         TypeData::Struct(d, s) => declared_exists(plan, d)
-            && fields_exist(plan, s, plan.list(r, 5)),
+            && fields_exist(plan, s, plan.list(r, TYPE_HEAD)),
     }
 }
 
@@ -50,7 +51,7 @@ pub(crate) fn variant_refers(plan: &Plan<'_>, r: usize) -> bool
     let v = plan.variant_at(r);
     enum_exists(plan, v.ty)
         && v.name < sym_count(plan)
-        && fields_exist(plan, v.shape, plan.list(r, 3))
+        && fields_exist(plan, v.shape, plan.list(r, VARIANT_HEAD))
 }
 
 fn function_exists(plan: &Plan<'_>, f: FunctionKind) -> bool
@@ -74,5 +75,5 @@ pub(crate) fn term_refers(plan: &Plan<'_>, r: usize) -> bool
         && m.ret_ty < types
         && function_exists(plan, m.ctor)
         && function_exists(plan, m.xtor)
-        && list_below(plan.list(r, 8), types)
+        && list_below(plan.list(r, TERM_HEAD), types)
 }

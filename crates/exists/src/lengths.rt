@@ -1,21 +1,24 @@
 // Refusal 6: a binding's or arm's list length differs from what it names.
-ghost use Rattle.std.specs.Prelude.{◌≡◌};
+ghost use Rattle.std.specs.Prelude.{◌≡◌, List, ℕ};
 ghost use Rattle.plan.specs.Lookup.{type_at, variant_at, fields_of, field_count};
 ghost use Rattle.plan.specs.Refusal.{source_count, pattern_count, arm_length_fits, lengths_fit};
 ghost use Rattle.rows.specs.View.{binding_of, block_of};
 ghost use Rattle.view.specs.Buffers.{words_of, env_of, plan_of};
+ghost use Rattle.view.specs.Tables.{plan_in};
 ghost use Rattle.view.specs.Told.{binding_told, constraint_told};
 ghost use Rattle.checks.specs.Tests.{generated_of};
 ghost use Rattle.exists.specs.Ready.{binding_length_fits, generated_fits};
 
+use super::counts::argument_count;
 use super::indexed::Indexed;
 use checks::tables::{GeneratedTables, all_generated, all_rows};
 use view::binding::Binding;
 use view::block::Constraint;
 use view::buffers::Plan;
-use view::tables::{TERMS, VARIANTS};
+use view::heads::{BINDING_HEAD, BLOCK_HEAD};
+use view::tables::VARIANTS;
 
-// How many fields the type n has.
+// How many fields the type n has. A `match`: `map_or` was tried, but says nothing of what a closure answers that holds the plan.
 #[tactic(auto, using(crate::proofs::Sorts::fields_undeclared))]
 fn struct_fields(plan: &Plan<'_>, n: usize) -> usize
     ensures { result ≡ field_count (fields_of (type_at (env_of plan.now) n)) }
@@ -30,16 +33,15 @@ fn struct_fields(plan: &Plan<'_>, n: usize) -> usize
 fn scan_fields(plan: &Plan<'_>, n: usize, k: usize) -> usize
     ensures { result ≡ field_count (variant_at (env_of plan.now) n k).fields }
 {
-    let of_type = (plan.first_row(VARIANTS)..plan.end_row(VARIANTS))
+    plan.row_range(VARIANTS)
         .filter(|r| plan.word(*r, 0) == n)
-        .nth(k);
-    match of_type {
-        Some(r) => plan.variant_field_count(r),
-        None => 0,
-    }
+        .map(|r| plan.variant_field_count(r))
+        .nth(k)
+        .unwrap_or(0)
 }
 
 // How many fields the variant k of the type n has.
+#[tactic(auto, using(crate::proofs::Sorts::fields_none, crate::proofs::Sorts::fields_found))]
 fn variant_fields(indexed: &Indexed<'_>, n: usize, k: usize) -> usize
     ensures { result ≡ field_count (variant_at (env_of indexed.now.plan) n k).fields }
 {
@@ -54,7 +56,7 @@ fn variant_fields(indexed: &Indexed<'_>, n: usize, k: usize) -> usize
 }
 
 // How many sources a binding has.
-#[tactic(auto, using(view::proofs::Plans::term_is), unfolding(plan::specs::Refusal::source_count, rows::specs::View::term_of))]
+#[tactic(auto, unfolding(plan::specs::Refusal::source_count))]
 fn source_count(indexed: &Indexed<'_>, b: Binding) -> usize
     ensures { result ≡ source_count (env_of indexed.now.plan) (binding_told b) }
 {
@@ -64,7 +66,7 @@ fn source_count(indexed: &Indexed<'_>, b: Binding) -> usize
         | Binding::ConstInt { .. }
         | Binding::ConstPrim { .. }
         | Binding::Argument { .. } => 0,
-        Binding::Constructor { term } => plan.list(plan.row_at(TERMS, term), 8).len(),
+        Binding::Constructor { term } => argument_count(plan, term),
         Binding::MakeVariant { ty, variant } => variant_fields(indexed, ty, variant),
         Binding::MakeStruct { ty } => struct_fields(plan, ty),
         _ => 1,
@@ -90,7 +92,7 @@ fn binding_fits(indexed: &Indexed<'_>, r: usize) -> bool
     ensures { result ≡ binding_length_fits (env_of indexed.now.plan) (binding_of (words_of indexed.now.plan r)) }
 {
     let b = indexed.plan.binding_at(r);
-    indexed.plan.list(r, 6).len() == source_count(indexed, b)
+    indexed.plan.list(r, BINDING_HEAD).len() == source_count(indexed, b)
 }
 
 // Whether row r is a step, or its list has the length that its arm asks for.
@@ -99,10 +101,12 @@ fn arm_fits(indexed: &Indexed<'_>, r: usize) -> bool
     ensures { result ≡ arm_length_fits (env_of indexed.now.plan) (block_of (words_of indexed.now.plan r)) }
 {
     let plan = &indexed.plan;
-    plan.is_step(r) || plan.list(r, 7).len() == pattern_count(indexed, plan.constraint_at(r))
+    plan.is_step(r)
+        || plan.list(r, BLOCK_HEAD).len() == pattern_count(indexed, plan.constraint_at(r))
 }
 
 // Whether the lists of a generated term's bindings and block have the lengths that are asked for.
+#[tactic(auto, using(crate::proofs::Rows::fits_tests))]
 fn generated_fits(indexed: &Indexed<'_>, g: GeneratedTables) -> bool
     ensures { result ≡ generated_fits (env_of indexed.now.plan) (generated_of indexed.now.plan g) }
 {
@@ -111,9 +115,10 @@ fn generated_fits(indexed: &Indexed<'_>, g: GeneratedTables) -> bool
         && all_rows(plan, g.block, |r| arm_fits(indexed, r))
 }
 
-#[tactic(auto, using(crate::proofs::Rows::fits_plan))]
+#[tactic(auto, using(crate::proofs::Bytes::fit_any, crate::proofs::Rows::fits_plan))]
 pub fn lengths_fit(indexed: &Indexed<'_>) -> bool
-    ensures { result ≡ lengths_fit (plan_of indexed.now.plan) }
+    ensures own { result ≡ lengths_fit (plan_of indexed.now.plan) }
+    ensures any { (bytes : List ℕ) → let p = indexed.now.plan in result ≡ lengths_fit (plan_in bytes p.words.now p.rows.now p.tables.now) }
 {
     all_generated(&indexed.plan, |g| generated_fits(indexed, g))
 }

@@ -7,9 +7,10 @@ pub mod generated;
 pub mod indexed;
 pub mod lengths;
 
-ghost use Rattle.std.specs.Prelude.{◌≡◌, OnOk};
+ghost use Rattle.std.specs.Prelude.{◌≡◌, List, ℕ, OnOk};
 ghost use Rattle.plan.specs.Refusal.{number_of, judged};
 ghost use Rattle.view.specs.Buffers.{plan_of};
+ghost use Rattle.view.specs.Tables.{plan_in};
 ghost use Rattle.refusal.specs.Number.{result_number};
 ghost use Rattle.variants.specs.Index.{VariantIndexIn};
 
@@ -19,9 +20,10 @@ use refusal::Refusal;
 use view::buffers::Plan;
 
 // The lowest of the refusals 4 to 10, if there is one; a plan that passes has its variants indexed.
-#[tactic(auto, using(crate::proofs::Judged::arguments_are_few), unfolding(plan::specs::Refusal::judged))]
+#[tactic(auto, using(crate::proofs::Bytes::judged_any, crate::proofs::Judged::arguments_are_few, crate::proofs::Judged::few_types, crate::proofs::Judged::few_variants), unfolding(plan::specs::Refusal::judged))]
 pub fn judge(plan: &Plan<'_>, index: &mut [u32; 1281]) -> Result<(), Refusal>
     ensures number { result_number result ≡ number_of (judged (plan_of plan.now)) }
+    ensures any { (bytes : List ℕ) → let p = plan.now in result_number result ≡ number_of (judged (plan_in bytes p.words.now p.rows.now p.tables.now)) }
     ensures indexed { OnOk result (VariantIndexIn plan.now index.new) }
 {
     if !most::within_most(plan) {

@@ -22,6 +22,7 @@ use Rattle.expr_parts.specs.Sources.{one_source}
 use Rattle.expr_parts.proofs.Laws.{emits_nothing}
 use Rattle.expr.specs.Between.{row_of, source_count, inner, turns}
 use Rattle.expr.specs.Lower.{Lower}
+use Rattle.expr.specs.declared.between.Expression.{Expression}
 use Rattle.expr.specs.declared.between.Source.{Source}
 use Rattle.expr.specs.Next.{HasNoName, StepIs}
 use Rattle.expr.specs.Writes.{below, UpTo, Ready, Writes, Leaves, rest_of}
@@ -82,11 +83,6 @@ rest_after : {env : Environment} {d : ℕ} {v₀ : Writer} {w₀ : Sink} {r₀ :
 rest_after {r = r} h g p = record { ends = λ w' r' s. g.ends w' r' (emits_same (h.is r) (p ⟫ s)) }
 
 module _ (p : Plan) (bound : Marks) (t depth b : ℕ) where
-  -- no binding has as many sources as no number counts
-  pub none_there : (i : ℕ) (w : Sink) (next : Option Source) → 18446744073709551615 - i ≡ 0 → StepIs p bound t depth b i w next → StepIs p bound t depth b i w None
-  none_there i w None g s = s
-  none_there i w (Some x) g s = absurd (omega (arith, g, s.1.small))
-
   -- no source is left
   module _ (i : ℕ) (w : Sink) (s : StepIs p bound t depth b i w None) where
     counted : (d₀ d k : ℕ) → Ready p t depth (suc b) b d₀ d k → HasNoName bound b w → source_count (env_of p) (row_of p t b).binding (row_of p t b).sources ≤ i
@@ -104,7 +100,7 @@ module _ (p : Plan) (bound : Marks) (t depth b : ℕ) where
   module _ {w : Sink} {r : Marks} where
     module _ (i : ℕ) {w₁ : Sink} {r₁ : Marks} (g : Leaves p bound t depth (suc b) b (rest_of p bound t b 0) w r (rest_of p bound t b i) w₁ r₁) where
       -- source i, and up to the next
-      pub leaves_turn : (s : Source) {given : Bool} {w₂ : Sink} {r₂ : Marks} {w₃ : Sink} {r₃ : Marks} → StepIs p bound t depth b i w₁ (Some s) → contains r₁ s.binding ≡ given
+      leaves_turn : (s : Source) {given : Bool} {w₂ : Sink} {r₂ : Marks} {w₃ : Sink} {r₃ : Marks} → StepIs p bound t depth b i w₁ (Some s) → contains r₁ s.binding ≡ given
           → Writes p bound t s.depth (suc s.binding) (suc s.binding) (λ rec d. rec d s.binding) w₁ r₁ w₂ r₂
           → UpTo p bound t depth b (i + 1) given w₂ r₂ w₃ r₃
           → Leaves p bound t depth (suc b) b (rest_of p bound t b 0) w r (rest_of p bound t b (i + 1)) w₃ r₃
@@ -128,7 +124,7 @@ module _ (p : Plan) (bound : Marks) (t depth b : ℕ) where
         }
 
         -- from the start
-        pub writes_done : {w₀ : Sink} {r₀ : Marks}
+        writes_done : {w₀ : Sink} {r₀ : Marks}
             → UpTo p bound t depth b 0 false w₀ r₀ w r
             → Writes p bound t depth (suc b) (suc b) (λ rec d. rec d b) w₀ r₀ w₁ r₁
         unfolding emit_below
@@ -140,6 +136,31 @@ module _ (p : Plan) (bound : Marks) (t depth b : ℕ) where
                 let h' = ready_inside h in
                 emits_same ((same_start (env_of p) bound (below p bound t k) d b (row_of p t b).binding (row_of p t b).sources).is r₀)
                 (u h.indexed d₀ d h.deep (not_deepest h') ⟫ writes_rest.is d₀ d k h')
+
+-- THE LOOP
+
+-- from the end of the start to here: all up to the source that is next, or to the end
+pub record Stands (p : Plan) (bound : Marks) (t depth b : ℕ) (w₀ : Sink) (r₀ : Marks) (e : Expression) (w : Sink) (r : Marks) (next : Option Source) : Type 0 where
+  pub number : e.binding ≡ b
+  pub deep : e.depth ≡ depth
+  pub leaves : Leaves p bound t depth (suc b) b (rest_of p bound t b 0) w₀ r₀ (rest_of p bound t b e.written) w r
+  pub step : StepIs p bound t depth b e.written w next
+
+module _ (p : Plan) (bound : Marks) (t depth b : ℕ) {w₀ : Sink} {r₀ : Marks} {e : Expression} {w : Sink} {r : Marks} where
+  pub stands_turn : (s : Source) (next : Option Source) {given : Bool} {w₂ : Sink} {r₂ : Marks} {w₃ : Sink} {r₃ : Marks} {e' : Expression} → Stands p bound t depth b w₀ r₀ e w r (Some s) → contains r s.binding ≡ given
+      → Writes p bound t s.depth (suc s.binding) (suc s.binding) (λ rec d. rec d s.binding) w r w₂ r₂
+      → e' ≡ record e { written = e.written + 1 } → UpTo p bound t e.depth e.binding (e.written + 1) given w₂ r₂ w₃ r₃ → StepIs p bound t e.depth e.binding (e.written + 1) w₃ next
+      → Stands p bound t depth b w₀ r₀ e' w₃ r₃ next
+  stands_turn s next h g q m u n =
+      rw m (record {
+        number = h.number;
+        deep = h.deep;
+        leaves = leaves_turn p bound t depth b e.written h.leaves s h.step g q (rw (h.deep, h.number) at u);
+        step = rw (h.deep, h.number) at n;
+      })
+
+  pub stands_end : {w₁ : Sink} {r₁ : Marks} → Stands p bound t depth b w r e w₁ r₁ None → UpTo p bound t depth b 0 false w₀ r₀ w r → Writes p bound t depth (suc b) (suc b) (λ rec d. rec d b) w₀ r₀ w₁ r₁
+  stands_end h u = writes_done p bound t depth b e.written h.leaves h.step u
 
 -- A WHOLE EXPRESSION
 

@@ -2,7 +2,6 @@
 use Prim.Native.Nat.{ℕ, zero, suc, ◌+◌, ◌-◌, ◌≤◌, ◌<◌, min}
 use mathlib.Core.Path.{◌≡◌, refl, sym, ◌∙◌}
 use mathlib.Core.Bool.{Bool, true, false, cond, not, ◌&&◌}
-use Rattle.std.specs.Prelude.{Option, Some, None}
 use mathlib.Core.List.{List, [], ◌∷◌, ◌++◌, append_assoc, append-nil}
 use native.Mathlib.Omega.{arith}
 use lib.Dec.{eqb}
@@ -12,21 +11,17 @@ use Rattle.text.specs.Digits.{decimal}
 use Rattle.text.specs.Writes.{Writes}
 use Rattle.text.specs.declared.sink.Sink.{Sink}
 use Rattle.plan.specs.Plan.{Fields, Environment}
-use Rattle.plan.specs.Binding.{Binding, BindingRow, ConstBool, ConstInt, ConstPrim, Argument, Extractor, Constructor, Iterator, MakeVariant, MakeStruct, MakeSome, MatchSome, MatchTuple, MatchVariant, ExtractStruct}
+use Rattle.plan.specs.Binding.{Binding, ConstBool, ConstInt, ConstPrim, Argument, Extractor, Constructor, Iterator, MakeVariant, MakeStruct, MakeSome, MatchSome, MatchTuple, MatchVariant, ExtractStruct}
 use Rattle.plan.specs.Lookup.{type_at, variant_at, fields_of, term_at}
-use Rattle.rows.specs.View.{binding_of}
 use Rattle.codegen.specs.Piece.{fix, var, indent, odd_piece, odd_pieces}
 use Rattle.codegen.specs.Writer.{Marks, contains, Writer, said, say, ask, ◌▸◌, nothing}
 use Rattle.codegen.specs.Sema.{is_ref, ExternalSig, extractor_sig, constructor_sig}
 use Rattle.codegen.specs.Expr.{passed, parameters, cloned, call, field_lines, extract_fields, emit_binding}
-use Rattle.view.specs.declared.buffers.Plan.{Plan}
 use Rattle.emits.specs.Sinks.{shows_none, shows_break, shows_unbrace}
 use Rattle.emits.specs.Runs.{Emits, emits_say, emits_ask}
 use Rattle.consts.specs.EmitsLaws.{shows_var_put}
 use Rattle.expr_parts.specs.Sources.{after_one}
-use Rattle.expr.specs.Between.{row_of, source_count, inner, call_head, before_parameter, after_parameter, call_end, opens, before_field, after_field, closes, begins, turn_next, turns, first_part, next_part, from_source, up_to, from_here, entire}
-use Rattle.expr.specs.declared.between.Source.{Source}
-use Rattle.expr.specs.Next.{NextIs, StepIs}
+use Rattle.expr.specs.Between.{source_count, inner, call_head, before_parameter, after_parameter, call_end, opens, before_field, after_field, closes, begins, turn_next, turns, next_part, from_source, up_to, from_here, entire}
 
 -- WRITERS THAT SAY THE SAME
 
@@ -236,21 +231,3 @@ pub emits_closed : {env : Environment} {d : ℕ} {w : Sink} {r : Marks} (d' : �
 unfolding odd_pieces odd_piece
 emits_closed d' [] h p i s = cc
 emits_closed d' (q ∷ qs) h p i s = emits_say refl (shows_break p i (shows_unbrace s shows_none))
-
--- by the row of a binding that has no name
-module _ {x : BindingRow} {k : Binding} (ws : List ℕ) (is : binding_of ws ≡ x) (told : k ≡ (binding_of ws).binding) where
-  pub next_of : (p : Plan) (depth b i : ℕ) (s : Option Source) → NextIs p depth b k (drop 6 ws) i s → NextIs p depth b x.binding x.sources i s
-  unfolding binding_of
-  next_of p depth b i None h = rw (← is, ← told) h
-  next_of p depth b i (Some s) h = rw (← is, ← told) h
-
-  pub emits_step : {env : Environment} {d₀ : ℕ} (bound : Marks) (b d i : ℕ) (given : Bool) {w : Sink} {r : Marks} {w' : Sink} {r' : Marks} → contains bound b ≡ false
-      → Emits env d₀ (first_part env b k (drop 6 ws) i given ▸ next_part env d b k (drop 6 ws) i (source_count env k (drop 6 ws) - i)) w r w' r'
-      → Emits env d₀ (up_to env bound d b x.binding x.sources i given) w r w' r'
-  unfolding binding_of
-  emits_step bound b d i given nameless p = rw (nameless, ← is, ← told) p
-
-module _ (p : Plan) (bound : Marks) (t depth b i : ℕ) (w : Sink) {k : Binding} (ws : List ℕ) (is : binding_of ws ≡ row_of p t b) (told : k ≡ (binding_of ws).binding) (nameless : contains bound b ≡ false) where
-  pub step_of : (s : Option Source) → NextIs p depth b k (drop 6 ws) i s → StepIs p bound t depth b i w s
-  step_of None h = λ n. next_of ws is told p depth b i None h
-  step_of (Some s) h = (nameless, next_of ws is told p depth b i (Some s) h)

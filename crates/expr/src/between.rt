@@ -1,6 +1,6 @@
 // What stands before, between and after the sources of a binding, for all kinds: `emit_expr` of codegen.rs 915 is this and its calls
 // of itself. None of these functions is on the stack while a source is written, so they may have what locals they like.
-ghost use Rattle.std.specs.Prelude.{ℕ, suc, ◌+◌, ◌-◌, ◌<◌, ◌≡◌};
+ghost use Rattle.std.specs.Prelude.{ℕ, false, ◌+◌, ◌-◌, ◌<◌, ◌≡◌};
 ghost use Rattle.plan.specs.Plan.{Environment};
 ghost use Rattle.codegen.specs.Writer.{Marks, contains};
 ghost use Rattle.view.specs.Buffers.{env_of};
@@ -9,32 +9,27 @@ ghost use Rattle.emits.specs.Marks.{set_of};
 ghost use Rattle.emits.specs.Runs.{Emits};
 ghost use Rattle.sema.specs.Holds.{VariantsIndexed};
 ghost use Rattle.sema.specs.Signature.{sig_told};
-ghost use Rattle.expr.specs.Between.{source_count, inner, call_head, before_parameter, after_parameter, opens, after_field, closes, begins, before_source, after_source, ends, first_part};
+ghost use Rattle.expr.specs.Between.{row_of, source_count, inner, call_head, before_parameter, after_parameter, opens, after_field, closes, begins, before_source, after_source, ends};
+ghost use Rattle.expr.specs.Call.{called, called_told};
 ghost use Rattle.expr.specs.Next.{NextIs, StepIs};
 ghost use Rattle.expr.specs.Writes.{NextPart, UpTo};
 
+use super::Scope;
 use super::call::called;
 use consts::pieces::put_var;
 use consts::{emit_bool, emit_int};
 use emits::stablemapset::contains;
 use expr_parts::{
-    SOURCES, argument, const_prim, field_head, mark_result, parameter_count, put_after, put_borrow,
+    argument, const_prim, field_head, mark_result, parameter_count, put_after, put_borrow,
     put_call_end, put_clone, type_name, variant_name,
 };
 use sema::signature::ExternalSig;
 use sema::types::TypeId;
 use text::sink::Sink;
 use view::binding::Binding;
+use view::bindings::Bindings;
 use view::buffers::Plan;
 use view::word_in;
-
-// What does not change while an expression is written: the plan, the bindings that have names, and the number of the table of bindings.
-#[derive(Clone, Copy)]
-pub struct Scope<'a> {
-    pub plan: &'a Plan<'a>,
-    pub bound: &'a [bool],
-    pub bindings: usize,
-}
 
 // The source that is written next, which is below its binding, and the depth of its lines.
 #[derive(Clone, Copy)]
@@ -96,36 +91,44 @@ fn close_fields(w: &mut Sink<'_>, depth: usize, sources: &[u32])
     }
 }
 
-// A binding that has no name: its number, what it is, and its sources.
+// A binding of a plan that has no name: its number, what it is, and its sources.
 // No field for the signature that it calls: that it is the binding's would be a ghost field, and an equation of signatures is not known to be a
 // proposition.
 #[derive(Clone, Copy)]
 struct BindingRow<'a> {
+    plan: &'a Plan<'a>,
     number: usize,
     binding: Binding,
     sources: &'a [u32],
 }
 
 impl BindingRow<'_> {
-    // All that stands before the first source. Constants and arguments have none: this is all of them.
-    fn begin(&self, w: &mut Sink<'_>, plan: &Plan<'_>, refs: &mut [bool])
-        ensures { VariantsIndexed plan.now → let env = env_of plan.now in (d : ℕ) → Emits env d (begins env self.now.number (binding_told self.now.binding) self.now.sources.now) w.old (set_of refs.old) w.new (set_of refs.new) }
+    // The signature of what it calls, if it calls something.
+    fn called(&self) -> Option<ExternalSig>
+        ensures { let env = env_of self.now.plan.now in called_told env result ≡ called env (binding_told self.now.binding) }
     {
-        if let Some(sig) = called(plan, self.binding) {
-            return call_head(w, plan, refs, self.number, sig);
+        called(self.plan, self.binding)
+    }
+
+    // All that stands before the first source. Constants and arguments have none: this is all of them.
+    fn begin(&self, w: &mut Sink<'_>, refs: &mut [bool])
+        ensures { VariantsIndexed self.now.plan.now → let env = env_of self.now.plan.now in (d : ℕ) → Emits env d (begins env self.now.number (binding_told self.now.binding) self.now.sources.now) w.old (set_of refs.old) w.new (set_of refs.new) }
+    {
+        if let Some(sig) = self.called() {
+            return call_head(w, self.plan, refs, self.number, sig);
         }
         match self.binding {
             Binding::ConstBool { val } => emit_bool(w, val),
             Binding::ConstInt { ty, val } => emit_int(w, TypeId(ty), val),
-            Binding::ConstPrim { val } => const_prim(w, plan, val),
+            Binding::ConstPrim { val } => const_prim(w, self.plan, val),
             Binding::Argument { index } => argument(w, index),
             Binding::MakeVariant { ty, variant } => {
-                let variant = TypeId(ty).variant(plan, variant);
-                variant_name(w, plan, TypeId(ty), variant.name);
+                let variant = TypeId(ty).variant(self.plan, variant);
+                variant_name(w, self.plan, TypeId(ty), variant.name);
                 open_fields(w, self.sources);
             }
             Binding::MakeStruct { ty } => {
-                type_name(w, plan, TypeId(ty));
+                type_name(w, self.plan, TypeId(ty));
                 open_fields(w, self.sources);
             }
             Binding::MakeSome => w.put_bytes(b"Some("),
@@ -134,11 +137,11 @@ impl BindingRow<'_> {
     }
 
     // How many sources are written.
-    fn count_sources(&self, plan: &Plan<'_>) -> usize
-        ensures { result ≡ source_count (env_of plan.now) (binding_told self.now.binding) self.now.sources.now }
+    fn count_sources(&self) -> usize
+        ensures { result ≡ source_count (env_of self.now.plan.now) (binding_told self.now.binding) self.now.sources.now }
     {
-        if let Some(sig) = called(plan, self.binding) {
-            return parameter_count(plan, self.sources, sig);
+        if let Some(sig) = self.called() {
+            return parameter_count(self.plan, self.sources, sig);
         }
         match self.binding {
             Binding::ConstBool { .. }
@@ -161,36 +164,34 @@ impl BindingRow<'_> {
     }
 
     // Before source i.
-    fn put_before(&self, w: &mut Sink<'_>, plan: &Plan<'_>, depth: usize, i: usize, given: bool)
-        ensures { VariantsIndexed plan.now → let env = env_of plan.now in (d₀ d : ℕ) (m : Marks) → depth ≡ d₀ + d → Emits env d₀ (before_source env d (binding_told self.now.binding) i given) w.old m w.new m }
+    fn put_before(&self, w: &mut Sink<'_>, depth: usize, i: usize, given: bool)
+        ensures { VariantsIndexed self.now.plan.now → let env = env_of self.now.plan.now in (d₀ d : ℕ) (m : Marks) → depth ≡ d₀ + d → Emits env d₀ (before_source env d (binding_told self.now.binding) i given) w.old m w.new m }
     {
-        if let Some(sig) = called(plan, self.binding) {
-            return before_parameter(w, plan, sig, i, given);
+        if let Some(sig) = self.called() {
+            return before_parameter(w, self.plan, sig, i, given);
         }
         match self.binding {
             Binding::MakeVariant { ty, variant } => {
-                let variant = TypeId(ty).variant(plan, variant);
-                field_head(w, plan, depth, &variant.fields, i)
+                let variant = TypeId(ty).variant(self.plan, variant);
+                field_head(w, self.plan, depth, &variant.fields, i)
             }
-            Binding::MakeStruct { ty } => field_head(w, plan, depth, &TypeId(ty).fields(plan), i),
+            Binding::MakeStruct { ty } => field_head(
+                w,
+                self.plan,
+                depth,
+                &TypeId(ty).fields(self.plan),
+                i,
+            ),
             _ => {}
         }
     }
 
     // After source i, which is q: a parameter goes by what was known before it was written, a field is asked about now.
-    fn put_after_source(
-        &self,
-        w: &mut Sink<'_>,
-        plan: &Plan<'_>,
-        refs: &[bool],
-        i: usize,
-        q: usize,
-        given: bool,
-    )
-        ensures { let env = env_of plan.now in (d : ℕ) → Emits env d (after_source env (binding_told self.now.binding) i q given) w.old (set_of refs.now) w.new (set_of refs.now) }
+    fn put_after_source(&self, w: &mut Sink<'_>, refs: &[bool], i: usize, q: usize, given: bool)
+        ensures { let env = env_of self.now.plan.now in (d : ℕ) → Emits env d (after_source env (binding_told self.now.binding) i q given) w.old (set_of refs.now) w.new (set_of refs.now) }
     {
-        if let Some(sig) = called(plan, self.binding) {
-            return after_parameter(w, plan, sig, i, given);
+        if let Some(sig) = self.called() {
+            return after_parameter(w, self.plan, sig, i, given);
         }
         match self.binding {
             Binding::MakeVariant { .. } | Binding::MakeStruct { .. } => {
@@ -201,10 +202,10 @@ impl BindingRow<'_> {
     }
 
     // After the last source.
-    fn finish(&self, w: &mut Sink<'_>, plan: &Plan<'_>, depth: usize)
-        ensures { let env = env_of plan.now in (d₀ d : ℕ) (m : Marks) → depth ≡ d₀ + d → Emits env d₀ (ends env d self.now.number (binding_told self.now.binding) self.now.sources.now) w.old m w.new m }
+    fn finish(&self, w: &mut Sink<'_>, depth: usize)
+        ensures { let env = env_of self.now.plan.now in (d₀ d : ℕ) (m : Marks) → depth ≡ d₀ + d → Emits env d₀ (ends env d self.now.number (binding_told self.now.binding) self.now.sources.now) w.old m w.new m }
     {
-        if let Some(sig) = called(plan, self.binding) {
+        if let Some(sig) = self.called() {
             return put_call_end(w, self.number, sig);
         }
         if let Binding::MakeVariant { .. } | Binding::MakeStruct { .. } = self.binding {
@@ -212,39 +213,19 @@ impl BindingRow<'_> {
         }
     }
 
-    // From the start, or from the end of the source before source i, of which `given` says whether it was a reference before it was
-    // written.
-    fn put_first(&self, w: &mut Sink<'_>, plan: &Plan<'_>, refs: &mut [bool], i: usize, given: bool)
-        ensures { VariantsIndexed plan.now → let env = env_of plan.now in (d : ℕ) → Emits env d (first_part env self.now.number (binding_told self.now.binding) self.now.sources.now i given) w.old (set_of refs.old) w.new (set_of refs.new) }
+    // Up to source i, or to the end, from the start or from the end of the source before. A source that is not below its binding is none.
+    fn put_next(&self, w: &mut Sink<'_>, refs: &[bool], depth: usize, i: usize) -> Option<Source>
+        ensures source { NextIs self.now.plan.now depth self.now.number (binding_told self.now.binding) self.now.sources.now i result }
+        ensures written { NextPart self.now.plan.now depth self.now.number (binding_told self.now.binding) self.now.sources.now i w.old (set_of refs.now) w.new (set_of refs.now) }
     {
-        if i == 0 {
-            return self.begin(w, plan, refs);
-        }
-        let last = i - 1;
-        let q = word_in(self.sources, last) as usize;
-        self.put_after_source(w, plan, refs, last, q, given);
-    }
-
-    // From there up to source i, or to the end. A source that is not below its binding is none.
-    fn put_next(
-        &self,
-        w: &mut Sink<'_>,
-        plan: &Plan<'_>,
-        refs: &[bool],
-        depth: usize,
-        i: usize,
-    ) -> Option<Source>
-        ensures source { NextIs plan.now depth self.now.number (binding_told self.now.binding) self.now.sources.now i result }
-        ensures written { NextPart plan.now depth self.now.number (binding_told self.now.binding) self.now.sources.now i w.old (set_of refs.now) w.new (set_of refs.now) }
-    {
-        if self.count_sources(plan) <= i {
-            self.finish(w, plan, depth);
+        if self.count_sources() <= i {
+            self.finish(w, depth);
             return None;
         }
         let q = word_in(self.sources, i) as usize;
         let below = self.inner_depth(depth);
         let given = contains(refs, q);
-        self.put_before(w, plan, below, i, given);
+        self.put_before(w, below, i, given);
         (q < self.number).then_some(Source {
             binding: q,
             depth: below,
@@ -252,34 +233,74 @@ impl BindingRow<'_> {
     }
 }
 
-// All that binding b has up to its source i, from its start or from its source before. A binding that has a name is its name. Past the
-// room nothing is written, so the time is bounded by the room.
-pub fn step(
-    w: &mut Sink<'_>,
-    refs: &mut [bool],
-    scope: &Scope<'_>,
-    depth: usize,
-    b: usize,
-    i: usize,
-    given: bool,
-) -> Option<Source>
-    ensures source { StepIs scope.now.plan.now (set_of scope.now.bound.now) scope.now.bindings depth b i w.new result }
-    ensures written { UpTo scope.now.plan.now (set_of scope.now.bound.now) scope.now.bindings depth b i given w.old (set_of refs.old) w.new (set_of refs.new) }
+// Binding b, which has no name.
+fn nameless<'a>(bindings: &Bindings<'a>, b: usize) -> BindingRow<'a>
+    ensures plan { result.plan.now ≡ bindings.now.plan.now }
+    ensures number { result.number ≡ b }
+    ensures binding { binding_told result.binding ≡ (row_of bindings.now.plan.now bindings.now.table b).binding }
+    ensures sources { result.sources.now ≡ (row_of bindings.now.plan.now bindings.now.table b).sources }
 {
-    if w.end <= w.at {
-        return None;
-    }
-    if contains(scope.bound, b) {
-        put_var(w, b);
-        return None;
-    }
-    let plan = scope.plan;
-    let row = plan.row_at(scope.bindings, b);
-    let nameless = BindingRow {
+    BindingRow {
+        plan: bindings.plan,
         number: b,
-        binding: plan.binding_at(row),
-        sources: plan.list(row, SOURCES),
-    };
-    nameless.put_first(w, plan, refs, i, given);
-    nameless.put_next(w, plan, refs, depth, i)
+        binding: bindings.binding(b),
+        sources: bindings.sources(b),
+    }
+}
+
+// The expression of a binding, whose own lines are `depth` deep, and how many of its sources are written.
+#[derive(Clone, Copy)]
+pub struct Expression {
+    pub binding: usize,
+    pub depth: usize,
+    pub written: usize,
+}
+
+// Past the room nothing is written, so the time is bounded by the room.
+#[tactic(auto, using(emits::specs::Runs::emits_past))]
+impl Expression {
+    // All up to the first source, or to the end. A binding that has a name is its name.
+    #[inline(never)]
+    pub fn begin(&self, w: &mut Sink<'_>, refs: &mut [bool], scope: &Scope<'_>) -> Option<Source>
+        ensures source { let s = scope.now in StepIs s.bindings.plan.now (set_of s.bound.now) s.bindings.table self.now.depth self.now.binding 0 w.new result }
+        ensures written { let s = scope.now in UpTo s.bindings.plan.now (set_of s.bound.now) s.bindings.table self.now.depth self.now.binding 0 false w.old (set_of refs.old) w.new (set_of refs.new) }
+    {
+        if w.end <= w.at {
+            return None;
+        }
+        if contains(scope.bound, self.binding) {
+            put_var(w, self.binding);
+            return None;
+        }
+        let row = nameless(&scope.bindings, self.binding);
+        row.begin(w, refs);
+        row.put_next(w, refs, self.depth, 0)
+    }
+
+    // Now one more source is written, of which `given` says whether it was a reference before: all from its end up to the next source, or
+    // to the end.
+    #[inline(never)]
+    pub fn go_on(
+        &mut self,
+        w: &mut Sink<'_>,
+        refs: &mut [bool],
+        scope: &Scope<'_>,
+        given: bool,
+    ) -> Option<Source>
+        requires counted { self.old.written < 18446744073709551615 }
+        requires nameless { contains (set_of scope.now.bound.now) self.old.binding ≡ false }
+        ensures more { self.new ≡ record self.old { written = self.old.written + 1 } }
+        ensures source { let s = scope.now in StepIs s.bindings.plan.now (set_of s.bound.now) s.bindings.table self.old.depth self.old.binding (self.old.written + 1) w.new result }
+        ensures written { let s = scope.now in UpTo s.bindings.plan.now (set_of s.bound.now) s.bindings.table self.old.depth self.old.binding (self.old.written + 1) given w.old (set_of refs.old) w.new (set_of refs.new) }
+    {
+        let i = self.written;
+        self.written += 1;
+        if w.end <= w.at {
+            return None;
+        }
+        let row = nameless(&scope.bindings, self.binding);
+        let q = word_in(row.sources, i) as usize;
+        row.put_after_source(w, refs, i, q, given);
+        row.put_next(w, refs, self.depth, self.written)
+    }
 }

@@ -1,5 +1,6 @@
 // Expressions and sources: `emit_expr` of codegen.rs 915, and `emit_source` of 1063.
-// The marks are lent: those of references change while writing, those of bound bindings are only read.
+// The marks are lent: those of references change while writing, those of bound bindings are only read. They are slices of any length,
+// which a set with 1,024 would narrow.
 #![tactic(auto, using(emits::specs::Emitted::emitted), unfolding(codegen::specs::Piece::odd_pieces, codegen::specs::Piece::odd_piece))]
 
 mod below;
@@ -16,31 +17,25 @@ ghost use Rattle.sema.specs.Holds.{VariantsIndexed};
 ghost use Rattle.expr.specs.Lower.{Lower};
 
 use below::emit_below;
-use between::Scope;
 use emits::stablemapset::contains;
 use expr_parts::put_borrow;
 use text::sink::Sink;
+use view::bindings::Bindings;
 use view::block::Constraint;
-use view::buffers::Plan;
 
-// The expression of binding b of the table `bindings`, where the line that it stands on is `depth` deep.
-pub fn emit_expr(
-    w: &mut Sink<'_>,
-    plan: &Plan<'_>,
-    refs: &mut [bool],
-    bound: &[bool],
-    bindings: usize,
-    depth: usize,
-    b: usize,
-)
-    ensures { VariantsIndexed plan.now → let env = env_of plan.now in let bs = bindings_in plan.now bindings in Lower bs → depth + b < 4611686018427387904 → Emits env depth (emit_expr env bs (set_of bound.now) b) w.old (set_of refs.old) w.new (set_of refs.new) }
+// What does not change while an expression is written: the bindings, and which of them have names.
+#[derive(Clone, Copy)]
+pub struct Scope<'a> {
+    pub bindings: Bindings<'a>,
+    pub bound: &'a [bool],
+}
+
+// The expression of binding b, where the line that it stands on is `depth` deep. That this is a small number is a premise and no type,
+// since a type would ask it of callers that need none of this.
+pub fn emit_expr(w: &mut Sink<'_>, refs: &mut [bool], scope: &Scope<'_>, depth: usize, b: usize)
+    ensures { let p = scope.now.bindings.plan.now in VariantsIndexed p → let env = env_of p in let bs = bindings_in p scope.now.bindings.table in Lower bs → depth + b < 4611686018427387904 → Emits env depth (emit_expr env bs (set_of scope.now.bound.now) b) w.old (set_of refs.old) w.new (set_of refs.new) }
 {
-    let scope = Scope {
-        plan,
-        bound,
-        bindings,
-    };
-    emit_below(w, refs, &scope, depth, b);
+    emit_below(w, refs, scope, depth, b);
 }
 
 // A pattern of a variant or a struct wants a reference.
@@ -53,16 +48,14 @@ fn wants_ref(c: Constraint) -> bool
 // The source q of a match whose first arm has the constraint c. It is asked about before it is written.
 pub fn emit_source(
     w: &mut Sink<'_>,
-    plan: &Plan<'_>,
     refs: &mut [bool],
-    bound: &[bool],
-    bindings: usize,
+    scope: &Scope<'_>,
     depth: usize,
     q: usize,
     c: Constraint,
 )
-    ensures { VariantsIndexed plan.now → let env = env_of plan.now in let bs = bindings_in plan.now bindings in Lower bs → depth + q < 4611686018427387904 → Emits env depth (emit_source env bs (set_of bound.now) q (constraint_told c)) w.old (set_of refs.old) w.new (set_of refs.new) }
+    ensures { let p = scope.now.bindings.plan.now in VariantsIndexed p → let env = env_of p in let bs = bindings_in p scope.now.bindings.table in Lower bs → depth + q < 4611686018427387904 → Emits env depth (emit_source env bs (set_of scope.now.bound.now) q (constraint_told c)) w.old (set_of refs.old) w.new (set_of refs.new) }
 {
     put_borrow(w, wants_ref(c), contains(refs, q));
-    emit_expr(w, plan, refs, bound, bindings, depth, q);
+    emit_expr(w, refs, scope, depth, q);
 }

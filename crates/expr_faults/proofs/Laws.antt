@@ -7,16 +7,12 @@ use mathlib.Core.List.{List, [], ◌∷◌}
 use native.Mathlib.Numerals.{add-one}
 use native.Mathlib.Omega.{arith}
 use lib.Dec.{eqb, ltb}
-use lib.ListN.{length, get_or, set, drop, replicate, drop_of_length-le}
+use lib.ListN.{length, get_or, set, drop, drop_of_length-le}
 use lib.Seq.{drop-cons, get_or-set_same, get_or-set_other, set_out}
 use borrow.Author.Tests.{ltb-true, ltb-false, eqb-true, eqb-false}
+use Rattle.std.proofs.Common.{eq-eqb, ne_eqb}
 use Rattle.std.specs.Prelude as code
-use Rattle.std.specs.Iterator.{Yields}
-use Rattle.std.proofs.lemmas.Iterator.{YieldsList}
-use Rattle.std.proofs.lemmas.Iterator.Consumers.{YieldsList-turn}
-use Rattle.std.proofs.lemmas.List.{get_or_read}
 use Rattle.plan.specs.Plan.{Environment, Term}
-use Rattle.plan.specs.Binding.{BindingRow}
 use Rattle.view.specs.Told.{binding_told}
 use Rattle.view.specs.declared.binding.Binding.{Binding}
 use Rattle.view.specs.declared.binding.Binding.TheVariants as b
@@ -26,17 +22,15 @@ use Rattle.codegen.specs.Writer.{contains}
 use Rattle.codegen.specs.ReturnKind as kind
 use Rattle.codegen.specs.ReturnKind.{ReturnKind, by_return_kind}
 use Rattle.codegen.specs.Sema.{is_external, extractor_sig, constructor_sig}
-use Rattle.rows.specs.View.{nth, binding_of}
-use Rattle.view.specs.Buffers.{rows_of}
+use Rattle.rows.specs.View.{nth}
 use Rattle.emits.specs.Marks.{set_of}
-use Rattle.checks.proofs.Blocks.{binding_is}
 use Rattle.splitting.specs.Cases.{and_left, and_right}
 use Rattle.schedule_rules.specs.Faults.{any, returns_many}
 use Rattle.schedule_rules.specs.Found.{Lower}
 use Rattle.schedule_rules.proofs.Found.{found_by_sources}
-use Rattle.expr_faults.specs.Kept.{bindings_of, answer, name_asked, call_asked, answer_to, Known, Latest, Fresh, Finds}
+use Rattle.expr_faults.specs.Kept.{bindings_of, answer_kept, answer, name_asked, call_asked, answer_to, Known, Latest, Fresh, Finds}
 use Rattle.expr_faults.specs.declared.kept.Kept.{Kept}
-use Rattle.expr_faults.specs.declared.written.Bindings.{Bindings}
+use Rattle.view.specs.declared.bindings.Bindings.{Bindings}
 use Rattle.expr_faults.specs.declared.written.Question.{Question}
 
 -- TERMS
@@ -88,14 +82,6 @@ fresh_latest h = record { most = λ b. omega (arith, h.below b) }
 pub latest_next : {number : ℕ} {kept : List ℕ} → number < 4294967292 → Latest number kept → Fresh (number + 2) kept
 latest_next h l = record { below = λ b. omega (arith, l.most b); room = omega arith }
 
-replicate_zero : (n b : ℕ) → get_or (replicate {A = ℕ} n 0) b 0 ≡ 0
-replicate_zero zero b = refl
-replicate_zero (suc n) zero = refl
-replicate_zero (suc n) (suc b) = replicate_zero n b
-
-pub cleared : (n : ℕ) → Fresh 2 (replicate n 0)
-cleared n = record { below = λ b. rw (replicate_zero n b) (omega arith); room = omega arith }
-
 -- an entry after one is set: the old one, or the new one at its place
 set_cases : (P : ℕ → Type 0) (l : List ℕ) (b v x : ℕ) → P (get_or l x 0) → (x ≡ b → P v) → P (get_or (set l b v) x 0)
 set_cases P l b v x old new = by_place (eqb x b) refl
@@ -120,6 +106,15 @@ mark_yes : (y : Bool) (number : ℕ) → mark y number ≡ suc number → y ≡ 
 mark_yes true number h = refl
 mark_yes false number h = absurd (omega arith)
 
+pub kept_no : (number word : ℕ) → word ≡ number → code.Some false ≡ answer_kept number word
+kept_no number word h = rw (eq-eqb word number h) refl
+
+pub kept_yes : (number word : ℕ) → word ≡ number + 1 → code.Some true ≡ answer_kept number word
+kept_yes number word h = rw (ne_eqb word number (λ e. absurd (omega arith)), eq-eqb word (suc number) (omega arith)) refl
+
+pub kept_none : (number word : ℕ) → (word ≡ number → ⊥) → (word ≡ number + 1 → ⊥) → code.None ≡ answer_kept number word
+kept_none number word h g = rw (ne_eqb word number h, ne_eqb word (suc number) (λ e. g (omega arith))) refl
+
 mark_most : (y : Bool) (number : ℕ) → mark y number ≤ suc number
 mark_most true number = omega arith
 mark_most false number = omega arith
@@ -143,11 +138,6 @@ module _ (q : Question) (s : Bindings) (b : ℕ) where
   -- a name
   pub finds_name : {k : Kept} {r : Bool} → contains (set_of q.bound.now) b ≡ true → r ≡ name_asked q b → Finds q s (λ f. f b) k k r
   finds_name h e = record { known = λ l k. (e ∙ sym (answer_is l ∙ rw h), k); latest = λ k. k; number = refl }
-
-  -- what is kept
-  pub finds_kept : {k : Kept} {old : ℕ} (y : Bool) → old ≡ get_or k.answers.now b 0 → old ≡ mark y k.number → Finds q s (λ f. f b) k k y
-  finds_kept true h e = record { known = λ l k. (sym (k.yes b (sym h ∙ e)), k); latest = λ k. k; number = refl }
-  finds_kept false h e = record { known = λ l k. (sym (k.no b (sym h ∙ e)), k); latest = λ k. k; number = refl }
 
   -- the call itself
   pub finds_call : {k k' : Kept} → contains (set_of q.bound.now) b ≡ false → true ≡ call_asked q s b → k'.number ≡ k.number → k'.answers.now ≡ set k.answers.now b (suc k.number) → Finds q s (λ f. f b) k k' true
@@ -190,21 +180,9 @@ every_at P [] i h g = absurd (omega arith)
 every_at P (q ∷ qs) zero h g = and_left (P q) (every P qs) g
 every_at P (q ∷ qs) (suc i) h g = every_at P qs i (omega arith) (and_right (P q) (every P qs) g)
 
--- a loop over a row's words: the next word is the next of the list
-pub word_at : {S A : Type 0} {steps : S → code.Option A → S → Type 0} {v : A → ℕ} {first : S} {list : List ℕ} → YieldsList steps v first list → (words : List A) (before : S) → Yields steps first words before
-    → (next : code.Option A) (after : S) (word : A) → next ≡ code.Some word → steps before next after → (length words < length list) × (v word ≡ nth list (length words))
-word_at {v = v} {list = list} l words before y next after word h g =
-    let turn = YieldsList-turn l words before y next after word h g in
-    (turn.0, get_or_read list (length words) (v word) turn.0 turn.1 0)
-
--- the sources of binding b; they stand after six words of its row
+-- the sources of binding b
 abbrev pub sources_of : Bindings → ℕ → List ℕ
 sources_of s b = (binding_at (bindings_of s) b).sources
-
-module _ (s : Bindings) (b : ℕ) {row : List ℕ} (is : row ≡ get_or (rows_of s.plan.now s.table) b []) where
-  pub sources_yielded : {S A : Type 0} {steps : S → code.Option A → S → Type 0} {v : A → ℕ} {first : S} → YieldsList steps v first (drop 6 row) → YieldsList steps v first (sources_of s b)
-  unfolding binding_of
-  sources_yielded l = let e : drop 6 row ≡ sources_of s b = ap (drop 6) is ∙ ap (λ (x : BindingRow). x.sources) (sym (binding_is (rows_of s.plan.now s.table) b)) in rw e at l
 
 -- from source i of binding b on, what is left decides
 pub record Left (q : Question) (s : Bindings) (b i : ℕ) (k₀ k : Kept) : Type 0 where
@@ -214,9 +192,6 @@ pub record Left (q : Question) (s : Bindings) (b i : ℕ) (k₀ k : Kept) : Type
   pub number : k.number ≡ k₀.number
 
 module _ {q : Question} {s : Bindings} {b : ℕ} where
-  pub left_start : {k : Kept} → Left q s b 0 k k
-  left_start = record { known = λ l k. (refl, k); latest = λ k. k; number = refl }
-
   module _ {i : ℕ} {k₀ k : Kept} (h : i < length (sources_of s b)) (w : Left q s b i k₀ k) where
     -- each source is below its binding
     pub left_lower : b ≤ nth (sources_of s b) i → Left q s b (i + 1) k₀ k

@@ -1,5 +1,5 @@
 -- What is asked of a written expression, and what is kept of the answers. Assumes nothing: these are definitions.
-use Rattle.std.specs.Prelude.{ℕ, suc, ◌≤◌, ◌<◌, ◌≡◌, Bool, true, false, not, ◌&&◌, List, [], get_or, Option, Some, None}
+use Rattle.std.specs.Prelude.{ℕ, suc, ◌≤◌, ◌<◌, ◌≡◌, Bool, true, false, cond, not, ◌&&◌, List, [], eqb, get_or, Option, Some, None}
 use denote.Bor.{Bor}
 use Rattle.plan.specs.Plan.{Environment}
 use Rattle.plan.specs.Binding.{BindingRow}
@@ -10,7 +10,7 @@ use Rattle.emits.specs.Marks.{set_of}
 use Rattle.schedule_rules.specs.Faults.{returns_many}
 use Rattle.schedule_rules.specs.Found.{Lower, found}
 use Rattle.expr_faults.specs.declared.kept.Kept.{Kept}
-use Rattle.expr_faults.specs.declared.written.Bindings.{Bindings}
+use Rattle.view.specs.declared.bindings.Bindings.{Bindings}
 use Rattle.expr_faults.specs.declared.written.Question.{Question}
 
 -- those of the table of a generated term
@@ -50,6 +50,10 @@ answer_to q s = answer (is_own q.before) (env_of s.plan.now) (bindings_of s) (na
 pub record Known (f : ℕ → Bool) (number : ℕ) (kept : List ℕ) : Type 0 where
   pub no : (b : ℕ) → get_or kept b 0 ≡ number → f b ≡ false
   pub yes : (b : ℕ) → get_or kept b 0 ≡ suc number → f b ≡ true
+
+-- the answer that a word is, if it is one for this number
+abbrev pub answer_kept : ℕ → ℕ → Option Bool
+answer_kept number word = cond (eqb word number) (Some false) (cond (eqb word (suc number)) (Some true) None)
 
 -- nothing is kept for a later number
 pub record Latest (number : ℕ) (kept : List ℕ) : Type 0 where

@@ -1,8 +1,11 @@
 // The answers that are kept, one for each binding, in a lent buffer: there is no heap.
 ghost use Rattle.std.specs.Prelude.{◌≡◌, cond, suc, ◌<◌, get_or, set};
-ghost use Rattle.expr_faults.specs.Kept.{Latest, Fresh};
+ghost use Rattle.expr_faults.specs.Kept.{Latest, Fresh, answer_kept};
 
-// `number` says for which question an answer is kept, and that it is no; one more says that it is yes.
+use view::word_in;
+
+// `number` says for which question an answer is kept, and that it is no; one more says that it is yes. That there is one more is asked where
+// answers are kept: as an invariant it would be asked of `raise` and of who makes a `Kept`, which asked nothing.
 #[derive(Drop)]
 pub struct Kept<'a> {
     pub answers: &'a mut [u32],
@@ -30,14 +33,19 @@ impl Kept<'_> {
         self.number = 2;
     }
 
-    // What is kept of binding b, 0 where it has no place.
-    pub(super) fn of(&self, b: usize) -> u32
-        ensures { result ≡ get_or self.now.answers.now b 0 }
+    // The answer for binding b, if one is kept for this question. What has no place reads as 0, which is no answer: numbers begin at 2.
+    #[tactic(auto, using(crate::proofs::Laws::kept_no, crate::proofs::Laws::kept_yes, crate::proofs::Laws::kept_none))]
+    pub(super) fn answer(&self, b: usize) -> Option<bool>
+        ensures { result ≡ answer_kept self.now.number (get_or self.now.answers.now b 0) }
     {
-        self.answers.get(b).copied().unwrap_or(0)
+        match word_in(self.answers, b).checked_sub(self.number) {
+            Some(0) => Some(false),
+            Some(1) => Some(true),
+            _ => None,
+        }
     }
 
-    // The answer for binding b is kept, if it has a place.
+    // The answer for binding b is kept, if it has a place. By an index: `get_mut` was tried, and after it nothing is known of the whole slice.
     pub(super) fn keep(&mut self, b: usize, yes: bool)
         requires { self.old.number < 4294967295 }
         ensures number { self.new.number ≡ self.old.number }

@@ -1,22 +1,14 @@
 // Questions about the written expressions of the bindings of a table.
 ghost use Rattle.std.specs.Prelude.{◌≡◌, ◌<◌};
 ghost use Rattle.plan.specs.Lookup.{binding_at};
-ghost use Rattle.rows.specs.View.{binding_of};
-ghost use Rattle.view.specs.Buffers.{words_of, env_of};
+ghost use Rattle.view.specs.Buffers.{env_of};
 ghost use Rattle.schedule_rules.specs.Faults.{any, returns_many};
 ghost use Rattle.expr_faults.specs.Kept.{bindings_of, name_asked, call_asked, Finds};
 
 use super::kept::Kept;
 use emits::stablemapset::contains;
 use view::binding::Binding;
-use view::buffers::Plan;
-
-// The bindings of a generated term: those of this table.
-#[derive(Clone, Copy)]
-pub struct Bindings<'a> {
-    pub plan: &'a Plan<'a>,
-    pub table: usize,
-}
+use view::bindings::Bindings;
 
 // What is asked of an expression where the bindings `bound` have names: with `before`, whether it holds a name that is not among those;
 // else whether it holds a call that returns many.
@@ -26,13 +18,13 @@ pub struct Question<'a> {
     pub before: Option<&'a [bool]>,
 }
 
-// Whether row r, a binding's, is a call that returns many: `extract` or `construct` of such a term.
+// Whether binding b is a call that returns many: `extract` or `construct` of such a term.
 #[tactic(auto, using(crate::proofs::Laws::many_called, crate::proofs::Laws::many_other))]
-fn returns_many(plan: &Plan<'_>, r: usize) -> bool
-    ensures { result ≡ returns_many (env_of plan.now) (binding_of (words_of plan.now r)).binding }
+fn returns_many(bindings: &Bindings<'_>, b: usize) -> bool
+    ensures { result ≡ returns_many (env_of bindings.now.plan.now) (binding_at (bindings_of bindings.now) b).binding }
 {
-    match plan.binding_at(r) {
-        Binding::Extractor { term } | Binding::Constructor { term } => plan.is_multi(term),
+    match bindings.binding(b) {
+        Binding::Extractor { term } | Binding::Constructor { term } => bindings.plan.is_multi(term),
         _ => false,
     }
 }
@@ -43,19 +35,15 @@ impl Question<'_> {
     fn asks_name(&self, b: usize) -> bool
         ensures { result ≡ name_asked self.now b }
     {
-        match self.before {
-            Some(before) => !contains(before, b),
-            None => false,
-        }
+        self.before.is_some_and(|before| !contains(before, b))
     }
 
     // Whether binding b is a call that is asked for.
-    #[tactic(auto, using(checks::proofs::Blocks::binding_is), unfolding(crate::specs::Kept::asked_call))]
+    #[tactic(auto, unfolding(crate::specs::Kept::asked_call))]
     fn asks_call(&self, bindings: &Bindings<'_>, b: usize) -> bool
         ensures { result ≡ call_asked self.now bindings.now b }
     {
-        self.before.is_none()
-            && returns_many(bindings.plan, bindings.plan.row_at(bindings.table, b))
+        self.before.is_none() && returns_many(bindings, b)
     }
 }
 
@@ -74,12 +62,8 @@ pub fn expr_holds(
     if contains(question.bound, b) {
         return question.asks_name(b);
     }
-    let old = kept.of(b);
-    if old == kept.number {
-        return false;
-    }
-    if old == kept.number + 1 {
-        return true;
+    if let Some(answer) = kept.answer(b) {
+        return answer;
     }
     if question.asks_call(bindings, b) {
         kept.keep(b, true);
@@ -102,8 +86,7 @@ pub fn source_holds(
     requires { kept.old.number < 4294967295 }
     ensures { Finds question.now bindings.now (λ f. any f (binding_at (bindings_of bindings.now) b).sources) kept.old kept.new result }
 {
-    let row = bindings.plan.row(bindings.plan.row_at(bindings.table, b));
-    for word in row.iter().skip(6) {
+    for word in bindings.sources(b) {
         let q = *word as usize;
         if b <= q {
             continue;

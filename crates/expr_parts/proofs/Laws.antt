@@ -1,22 +1,17 @@
--- Pieces among which no literal is odd, what is written with marks, and how a binding's row stands in the tables. Assumes nothing.
+-- Pieces among which no literal is odd, and what is written with marks. Assumes nothing.
 use Rattle.std.specs.Prelude.{◌≡◌, refl, Bool, true, false, cond, not, ◌&&◌, List, [], ◌∷◌, ◌++◌, ℕ, length, get_or}
 use Rattle.std.proofs.Common.{sym, ap, ◌∙◌, arith}
-use lib.ListN.{get_or-map}
 use Rattle.text.specs.declared.sink.Sink.{Sink}
 use Rattle.plan.specs.Plan.{Fields, unit, named, tuple, FunctionKind, absent, internal, external, Term, Environment}
-use Rattle.plan.specs.Lookup.{binding_at}
-use Rattle.rows.specs.View.{binding_made, binding_of}
-use Rattle.view.specs.Buffers.{words_of, rows_of, bindings_in}
-use Rattle.view.specs.declared.buffers.Plan.{Plan}
 use Rattle.codegen.specs.Piece.{Piece, fix, var, break, odd_piece, odd_pieces}
 use Rattle.codegen.specs.ReturnKind.{ReturnKind, by_return_kind}
 use Rattle.codegen.specs.ReturnKind as kind
 use Rattle.codegen.specs.Sema.{is_ref, field_name, full_name_of}
-use Rattle.codegen.specs.Writer.{Marks, contains, insert, say, mark, ask, nothing}
+use Rattle.codegen.specs.Writer.{Marks, contains, say, ask, nothing}
 use Rattle.codegen.specs.Expr.{cloned, returns_ref}
 use Rattle.emits.specs.Emits.{odd_append}
 use Rattle.emits.specs.Sinks.{Shows, shows_none}
-use Rattle.emits.specs.Runs.{Emits, emits_say, emits_mark, emits_ask}
+use Rattle.emits.specs.Runs.{Emits, emits_say, emits_ask}
 use Rattle.sema.specs.Signature.{prefix}
 
 -- NO ODD LITERALS
@@ -58,9 +53,6 @@ module _ {env : Environment} {d : ℕ} {w : Sink} {r : Marks} where
   unfolding odd_pieces
   emits_nothing = emits_say refl shows_none
 
-  pub emits_marked : {b : ℕ} {r' : Marks} → r' ≡ insert r b → Emits env d (mark b) w r w r'
-  emits_marked h = rw h emits_mark
-
   module _ {q : ℕ} {w' : Sink} where
     -- before a match's source
     pub emits_borrow : (wanted given : Bool) → contains r q ≡ given → Shows env d (cond (wanted && not given) (fix "&" refl ∷ []) []) w w' → Emits env d (ask q (λ x. say (cond (wanted && not x) (fix "&" refl ∷ []) []))) w r w' r
@@ -91,11 +83,3 @@ returns_others env (t ∷ u ∷ ts) h = refl
 -- the same of a number of types, a type and an answer that were read
 pub returns_first : (env : Environment) (ts : List ℕ) (n ty : ℕ) (b : Bool) → n ≡ length ts → n ≡ 1 → ty ≡ get_or ts 0 0 → b ≡ is_ref env ty → b ≡ returns_ref env ts
 returns_first env ts n ty b h k q p = p ∙ ap (is_ref env) q ∙ returns_one env ts (sym h ∙ k)
-
--- ROWS
-
-module _ (p : Plan) where
-  -- the row of binding b
-  pub binding_is : (t b r : ℕ) → words_of p r ≡ get_or (rows_of p t) b [] → binding_of (words_of p r) ≡ binding_at (bindings_in p t) b
-  unfolding binding_of binding_made
-  binding_is t b r h = ap binding_of h ∙ sym (get_or-map binding_of (rows_of p t) b [])

@@ -1,4 +1,4 @@
-// What an expression is made of beside its sources.
+// What an expression is made of beside its sources. The marks are slices of any length, which a set with 1,024 would narrow.
 #![tactic(auto, using(emits::specs::Emitted::emitted), unfolding(codegen::specs::Piece::odd_pieces, codegen::specs::Piece::odd_piece))]
 
 ghost use Rattle.std.specs.Prelude.{ℕ, ◌+◌, min, ◌≡◌, refl, cond, not, ◌&&◌, [], ◌∷◌, ◌++◌, length, get_or};
@@ -27,9 +27,6 @@ use text::sink::Sink;
 use view::binding::Binding;
 use view::buffers::Plan;
 
-// How many words stand before the sources in a binding's row.
-pub const SOURCES: usize = 6;
-
 pub fn const_prim(w: &mut Sink<'_>, plan: &Plan<'_>, val: usize)
     ensures { let env = env_of plan.now in (d : ℕ) → Shows env d (sym val ∷ []) w.old w.new }
 {
@@ -55,7 +52,7 @@ fn put_try(w: &mut Sink<'_>, refs: &[bool], q: usize)
     }
 }
 
-// After a source's `.` the field's number. Like `argument` and `put_var`, a text and a number.
+// A source's field by number. One function with `argument` and `put_var` would take the text as well: each call as long as these two lines.
 fn put_field(w: &mut Sink<'_>, field: usize)
     ensures shows { (env : Environment) (d : ℕ) → Shows env d (fix "." refl ∷ num field ∷ []) w.old w.new }
     ensures odd { w.new.odd ≡ w.old.odd }
@@ -99,7 +96,8 @@ pub fn put_borrow(w: &mut Sink<'_>, wanted: bool, given: bool)
     }
 }
 
-// After a reference of which the value is wanted.
+// After a reference of which the value is wanted. `wanted` is false for fields and returned values: a function without it would have the
+// text once more, and the test at its call, which `put_borrow` has in itself.
 pub fn put_clone(w: &mut Sink<'_>, wanted: bool, given: bool)
     ensures { (env : Environment) (d : ℕ) → Shows env d (cond (given && not wanted) (fix ".clone()" refl ∷ []) []) w.old w.new }
 {
@@ -154,7 +152,7 @@ pub fn parameter_count(plan: &Plan<'_>, sources: &[u32], sig: ExternalSig) -> us
 pub fn put_call_end(w: &mut Sink<'_>, b: usize, sig: ExternalSig)
     ensures { (env : Environment) (d : ℕ) → Shows env d (by_return_kind (sig_told env sig).ret_kind (fix ", &mut " refl ∷ var b ∷ []) [] [] ++ (fix ")" refl ∷ [])) w.old w.new }
 {
-    if matches!(sig.ret_kind, ReturnKind::Iterator) {
+    if sig.ret_kind == ReturnKind::Iterator {
         w.put_bytes(b", &mut ");
         put_var(w, b);
     }

@@ -1,9 +1,9 @@
 -- The walk's invariant: what is left to put for the rows to come ends where the whole does. Assumes nothing.
-use Rattle.std.specs.Prelude.{ℕ, ◌+◌, ◌-◌, ◌≤◌, ◌<◌, ◌≡◌, refl, length, get_or}
+use Rattle.std.specs.Prelude.{ℕ, ◌+◌, ◌-◌, ◌≤◌, ◌<◌, ◌≡◌, refl, Bool, Some, None, length, drop}
 use Rattle.std.proofs.Math.Path.{sym, subst}
 use Rattle.std.proofs.Common.{ap, ◌∙◌, add-one}
 use Rattle.std.proofs.Math.Option.{some, none}
-use mathlib.Core.List.{List, ◌∷◌, ◌++◌}
+use mathlib.Core.List.{List, [], ◌∷◌, ◌++◌}
 use native.Mathlib.Omega.{arith}
 use Rattle.text.specs.SinkLaws.{puts_past}
 use Rattle.text.specs.Writes.{Writes, writes_nil, writes_then}
@@ -14,36 +14,38 @@ use Rattle.plan.specs.Row.{Row, level}
 use Rattle.codegen.specs.Writer.{Marks}
 use Rattle.codegen.specs.Block.{Purpose}
 use Rattle.codegen.specs.Terms.{no_marks}
-use Rattle.origin.specs.Names.{Scope, Names, after_list, opens, keep, at_row, past}
+use Rattle.origin.specs.Names.{Scope, Names, after_list, opens, opened, keep, at_row, past}
 use Rattle.rows.specs.View.{nth, step_made, block_of}
 use Rattle.emits.specs.Marks.{set_of}
 use Rattle.row_frames.specs.Rows.{rows_in, rows_next, rows_none, Shallow}
 use Rattle.view.specs.BlockRows.{level_is, step_is}
-use Rattle.row_frames.specs.Told.{purpose_told, opens_told, opening, opened as opened_purpose}
+use Rattle.row_frames.specs.Told.{purpose_told, opens_told}
+use Rattle.row_frames.specs.declared.Purpose.{Purpose as CodePurpose}
+use Rattle.row_frames.specs.declared.stack.Frame.{Frame}
+use Rattle.row_frames.specs.Stack.{last_level, last_purpose, Last}
 use Rattle.schedule_rules.specs.Faults.{Letters, row_faults, block_faults, no_names}
 use Rattle.schedule_rules.specs.Found.{Lower}
 use Rattle.schedule_rules.specs.Sheet.{row_lines, table_lines}
 use Rattle.view.specs.Buffers.{words_of, env_of}
 use Rattle.expr_faults.specs.Kept.{bindings_of}
-use Rattle.expr_faults.specs.declared.written.Bindings.{Bindings}
+use Rattle.view.specs.declared.bindings.Bindings.{Bindings}
 use Rattle.row_faults.specs.Row.{JudgesRow}
 use Rattle.row_faults.specs.declared.check.Step.{Step}
 use Rattle.row_faults.specs.declared.names.Names.{Names as CodeNames}
 use Rattle.faults.specs.Told.{letters_told}
-use Rattle.faults.specs.Stack.{missing, scopes_told, names_told, Stacked, Pushed, not_root, stacked_pop, restore_pop, keep_pop, restore_none, keep_none, around_top, scopes_push, stacked_push}
-use Rattle.faults.specs.declared.walk.Frame.{Frame}
+use Rattle.faults.specs.Stack.{scope_told, scopes_told, names_told, around_last, restore_last, keep_last, restore_none, keep_none}
 
 -- the lines of the rows from row `first` up to row `last` are put
 pub record BlockPut (t : Bindings) (term first last places : ℕ) (w w' : Sink) : Type 0 where
   pub is : Lower (bindings_of t) → Shallow t.plan.now.words.now t.plan.now.rows.now first last places
       → Writes (table_lines term 0 (block_faults (env_of t.plan.now) (bindings_of t) no_names (rows_in t.plan.now last first))) w w'
 
-pub record Walking (t : Bindings) (term first last : ℕ) (w₀ : Sink) (frames : List Frame) (d r : ℕ) (n : CodeNames) (w : Sink) : Type 0 where
-  pub stacked : Stacked frames d
+-- n is of the names and fs of the frames before row r
+pub record Walking {T : Type 0} (t : Bindings) (term first last : ℕ) (w₀ : Sink) (fs : List (Frame T)) (r : ℕ) (n : CodeNames) (w : Sink) : Type 0 where
   pub begun : first ≤ r
   pub bindings : n.bindings ≡ t
   pub rest : Lower (bindings_of t) → (w' : Sink)
-      → Writes (table_lines term (r - first) (block_faults (env_of t.plan.now) (bindings_of t) (names_told n.bound frames d) (rows_in t.plan.now last r))) w w'
+      → Writes (table_lines term (r - first) (block_faults (env_of t.plan.now) (bindings_of t) (names_told n.bound fs) (rows_in t.plan.now last r))) w w'
       → Writes (table_lines term 0 (block_faults (env_of t.plan.now) (bindings_of t) no_names (rows_in t.plan.now last first))) w₀ w'
 
 -- a frame closes before the row
@@ -68,41 +70,58 @@ return_none p ws rs h = rw (step_is ws (rw h refl), h)
 none_some : (q : Purpose) → none ≡ some q → ⊥
 none_some q h = let z : ◌≡◌ {A = ℕ} 0 1 = cc in omega arith
 
--- the names at a row that closes none, and after it
-module _ {frames : List Frame} {d : ℕ} (n : CodeNames) (k : Stacked frames d) (r last : ℕ) (top : (get_or frames d missing).level ≤ level (block_of (words_of n.bindings.plan.now r))) where
-  abbrev ws : List ℕ
-  ws = words_of n.bindings.plan.now r
+-- the words of row r
+abbrev pub row_words : CodeNames → ℕ → List ℕ
+row_words n r = words_of n.bindings.plan.now r
 
-  here_names : at_row (names_told n.bound frames d) (block_of ws) ≡ set_of n.bound
-  unfolding at_row
-  here_names = restore_none k (set_of n.bound) top
+-- what is judged of row r, before the rows up to row `last`, where the frames fs are open
+abbrev pub Judged : {T : Type 0} → List (Frame T) → CodeNames → CodeNames → ℕ → ℕ → List Bool → Step → Type 0
+Judged fs n n' r last saved s = JudgesRow n n' (last_purpose fs) (nth (row_words n r) 1) (block_of (row_words n r)) (rows_in n.bindings.plan.now last (r + 1)) saved s
 
-  past_names : {frames' : List Frame} {n' : CodeNames} (s : Step) (f : Frame) → d + 1 < length frames
-      → JudgesRow n n' (purpose_told (get_or frames d missing).purpose) (nth ws 1) (block_of ws) (rows_in n.bindings.plan.now last (r + 1)) f.bound s
-      → Pushed frames (d + 1) f frames' → f.level ≡ level (block_of ws) + 1 → purpose_told f.purpose ≡ opened_purpose (opens_told s.opens)
-      → past (names_told n.bound frames d) (block_of ws) (rows_in n.bindings.plan.now last (r + 1)) ≡ names_told n'.bound frames' (d + opening (opens_told s.opens))
-  unfolding past
-  past_names {frames'} {n'} s f place j v fl fp =
-      let outside : (q : Purpose) → opens_told s.opens ≡ some q → set_of f.bound ≡ after_list (block_of ws) (set_of n.bound) =
-      λ q h. j.saved (λ e. none_some q (sym (return_none (purpose_told (get_or frames d missing).purpose) ws (rows_in n.bindings.plan.now last (r + 1)) e) ∙ sym j.frame ∙ h)) in
-      rw (here_names, keep_none k top, around_top k, ← j.names, ← j.frame)
-      (ap (λ (ss : List Scope). record { bound = set_of n'.bound; scopes = ss }) (sym (scopes_push k v (opens_told s.opens) place top fl fp (after_list (block_of ws) (set_of n.bound)) outside)))
+-- the frames fs' are open after row r, which opens this frame or none in the frames fs
+abbrev pub Follows : {T : Type 0} → List (Frame T) → List (Frame T) → CodeNames → ℕ → Step → Type 0
+Follows fs fs' n r s = scopes_told fs' ≡ opened (opens_told s.opens) (level (block_of (row_words n r))) (after_list (block_of (row_words n r)) (set_of n.bound)) (scopes_told fs)
+
+module _ {T : Type 0} (fs : List (Frame T)) (n : CodeNames) (r : ℕ) where
+  pub follows_some : {n' : CodeNames} (last : ℕ) {saved : List Bool} (s : Step) → Judged fs n n' r last saved s → {p : CodePurpose} (own : T) → s.opens ≡ Some p
+      → Follows fs (record { level = nth (row_words n r) 0 + 1; purpose = p; bound = saved; own = own } ∷ fs) n r s
+  unfolding opened scope_told
+  follows_some last {saved} s j {p} own h =
+      let ws : List ℕ = row_words n r in
+      let l : nth ws 0 + 1 - 1 ≡ level (block_of ws) = omega (arith, level_is ws) in
+      let o : set_of saved ≡ after_list (block_of ws) (set_of n.bound) =
+      j.saved (λ e. none_some (purpose_told p) (sym (return_none (last_purpose fs) ws (rows_in n.bindings.plan.now last (r + 1)) e) ∙ sym j.frame ∙ ap opens_told h)) in
+      rw (h, l, o) refl
+
+  pub follows_none : (s : Step) → s.opens ≡ None → Follows fs fs n r s
+  unfolding opened
+  follows_none s h = rw h refl
+
+  -- the names at a row that closes none, and after it
+  module _ (low : length fs ≤ last_level fs) (top : last_level fs ≤ level (block_of (row_words n r))) where
+    here_names : at_row (names_told n.bound fs) (block_of (row_words n r)) ≡ set_of n.bound
+    unfolding at_row
+    here_names = restore_none fs (set_of n.bound) low top
+
+    past_names : {n' : CodeNames} (last : ℕ) {saved : List Bool} (s : Step) → Judged fs n n' r last saved s → (fs' : List (Frame T)) → Follows fs fs' n r s
+        → past (names_told n.bound fs) (block_of (row_words n r)) (rows_in n.bindings.plan.now last (r + 1)) ≡ names_told n'.bound fs'
+    unfolding past at_row
+    past_names {n'} last s j fs' e =
+        rw (restore_none fs (set_of n.bound) low top, keep_none fs low top, around_last fs, ← j.names, ← j.frame) (ap (λ (ss : List Scope). record { bound = set_of n'.bound; scopes = ss }) (sym e))
 
 -- no room is left
 writes_past : {s : List ℕ} {w : Sink} → w.end ≤ w.at → Writes s w w
 writes_past h = record { buffer = refl; end = refl; odd = refl; puts = puts_past (omega arith) h }
 
-module _ {t : Bindings} {term first last : ℕ} {w₀ : Sink} {frames : List Frame} where
-  pub walking_start : {n : CodeNames} → Stacked frames 0 → n.bindings ≡ t → set_of n.bound ≡ no_marks → Walking t term first last w₀ frames 0 first n w₀
-  unfolding scopes_told
+module _ {T : Type 0} {t : Bindings} {term first last : ℕ} {w₀ : Sink} {fs : List (Frame T)} where
+  pub walking_start : {n : CodeNames} → fs ≡ [] → n.bindings ≡ t → set_of n.bound ≡ no_marks → Walking t term first last w₀ fs first n w₀
   walking_start s e h = record {
-    stacked = s;
     begun = omega arith;
     bindings = e;
-    rest = λ l w' q. let z : first - first ≡ 0 = omega arith in rw (h, z) at q;
+    rest = λ l w' q. let z : first - first ≡ 0 = omega arith in rw (s, h, z) at q;
   }
 
-  module _ {d r : ℕ} {n : CodeNames} {w : Sink} (k : Walking t term first last w₀ frames d r n w) where
+  module _ {r : ℕ} {n : CodeNames} {w : Sink} (k : Walking t term first last w₀ fs r n w) where
     abbrev Done : ℕ → Type 0
     Done places = BlockPut t term first last places w₀ w
 
@@ -116,50 +135,43 @@ module _ {t : Bindings} {term first last : ℕ} {w₀ : Sink} {frames : List Fra
     walking_done h = record { is = λ l s. k.rest l w (rw (rows_none t.plan.now.words.now t.plan.now.rows.now r last h) writes_nil) }
 
     -- there is a place for each level
-    pub walking_crowded : {places : ℕ} → r < last → places ≤ d + 1 → (get_or frames d missing).level ≤ nth (words_of t.plan.now r) 0 → Done places
-    walking_crowded there h g = record { is = λ l s. absurd (omega (arith, k.stacked.low d (omega arith), level_is (words_of t.plan.now r), s.places r k.begun there)) }
+    pub walking_crowded : {places : ℕ} → r < last → length fs ≤ last_level fs → places ≤ length fs + 1 → last_level fs ≤ nth (row_words n r) 0 → Done places
+    walking_crowded there low h g = let top : last_level fs ≤ nth (words_of t.plan.now r) 0 = rw k.bindings at g in record { is = λ l s. absurd (omega (arith, level_is (words_of t.plan.now r), s.places r k.begun there)) }
 
     -- the last frame closes
-    pub walking_close : {n' : CodeNames} → r < last → nth (words_of t.plan.now r) 0 < (get_or frames d missing).level → n'.bindings ≡ n.bindings → n'.bound ≡ (get_or frames d missing).bound → Walking t term first last w₀ frames (d - 1) r n' w
+    pub walking_close : {f : Frame T} {n' : CodeNames} → Last fs f → r < last → nth (row_words n r) 0 < f.level → n'.bindings ≡ n.bindings → n'.bound ≡ f.bound → Walking t term first last w₀ (drop 1 fs) r n' w
     unfolding at_row
-    walking_close {n'} there h e f =
-        let l : level (block_of (words_of t.plan.now r)) < (get_or frames d missing).level = rw (level_is (words_of t.plan.now r)) h in
-        let restored : at_row (names_told n.bound frames d) (block_of (words_of t.plan.now r)) ≡ at_row (names_told n'.bound frames (d - 1)) (block_of (words_of t.plan.now r)) = restore_pop k.stacked (set_of n.bound) l ∙ rw f refl in
+    walking_close {f} {n'} u there h e g =
+        let ws : List ℕ = words_of t.plan.now r in
+        let l : level (block_of ws) < f.level = rw (level_is ws) (rw k.bindings at h) in
+        let restored : at_row (names_told n.bound fs) (block_of ws) ≡ at_row (names_told n'.bound (drop 1 fs)) (block_of ws) = restore_last u l (set_of n.bound) ∙ rw g refl in
         record {
-          stacked = stacked_pop k.stacked (not_root k.stacked h);
           begun = k.begun;
           bindings = e ∙ k.bindings;
-          rest = λ y w' q. k.rest y w' (rw (rows_next t.plan.now.words.now t.plan.now.rows.now r last there) (rw (close_faults (env_of t.plan.now) (bindings_of t) (names_told n.bound frames d) (names_told n'.bound frames (d - 1)) (block_of (words_of t.plan.now r)) (rows_in t.plan.now last (r + 1)) restored (keep_pop k.stacked l)) (rw (rows_next t.plan.now.words.now t.plan.now.rows.now r last there) at q)));
+          rest = λ y w' q.
+              k.rest y w' (rw (rows_next t.plan.now.words.now t.plan.now.rows.now r last there) (rw (close_faults (env_of t.plan.now) (bindings_of t) (names_told n.bound fs) (names_told n'.bound (drop 1 fs)) (block_of ws) (rows_in t.plan.now last (r + 1)) restored (keep_last u l)) (rw (rows_next t.plan.now.words.now t.plan.now.rows.now r last there) at q)));
         }
 
--- a row is judged, its lines are put and its frame is written
-module _ {term first last : ℕ} {w₀ : Sink} {frames : List Frame} {d r : ℕ} {n : CodeNames} {w : Sink} (k : Walking n.bindings term first last w₀ frames d r n w) where
-  row_put : {frames' : List Frame} {n' : CodeNames} {w' : Sink} {s : Step} (f : Frame) {u : ℕ} → r < last → d + 1 < length frames → (get_or frames d missing).level ≤ nth (words_of n.bindings.plan.now r) 0
-      → JudgesRow n n' (purpose_told (get_or frames d missing).purpose) (nth (words_of n.bindings.plan.now r) 1) (block_of (words_of n.bindings.plan.now r)) (rows_in n.bindings.plan.now last (r + 1)) f.bound s
-      → Writes (row_lines term (r - first) (letters_told s.faults)) w w' → Pushed frames (d + 1) f frames' → f.level ≡ nth (words_of n.bindings.plan.now r) 0 + 1 → purpose_told f.purpose ≡ opened_purpose (opens_told s.opens) → u ≡ opening (opens_told s.opens)
-      → Walking n.bindings term first last w₀ frames' (d + u) (r + 1) n' w'
-  row_put {frames'} {n'} {w'} {s} f {u} there place deeper j put v fl fp fu =
+-- a row is judged, its lines are put, and the frames fs' are open then
+module _ {T : Type 0} {term first last : ℕ} {w₀ : Sink} {fs : List (Frame T)} {r : ℕ} {n : CodeNames} {w : Sink} (low : length fs ≤ last_level fs) where
+  row_put : Walking n.bindings term first last w₀ fs r n w → {fs' : List (Frame T)} {n' : CodeNames} {w' : Sink} (s : Step) {saved : List Bool} → r < last → last_level fs ≤ nth (row_words n r) 0 → Judged fs n n' r last saved s
+      → Writes (row_lines term (r - first) (letters_told s.faults)) w w' → Follows fs fs' n r s → Walking n.bindings term first last w₀ fs' (r + 1) n' w'
+  row_put k {fs'} {n'} {w'} s there deeper j put e =
       let plan = n.bindings.plan.now in
       let ws : List ℕ = words_of plan r in
       let row : Row = block_of ws in
       let rs : List Row = rows_in plan last (r + 1) in
-      let top : (get_or frames d missing).level ≤ level row = rw (level_is ws) deeper in
-      let fl' : f.level ≡ level row + 1 = rw (level_is ws) fl in
-      rw fu (record {
-        stacked = stacked_push k.stacked v (opens_told s.opens) place top fl' fp;
+      let top : last_level fs ≤ level row = rw (level_is ws) deeper in
+      record {
         begun = omega (arith, k.begun);
         bindings = j.bindings;
         rest = λ y w₂ q.
             let next : r + 1 - first ≡ r - first + 1 = omega (arith, k.begun) in
-            k.rest y w₂ (rw (rows_next plan.words.now plan.rows.now r last there) (rw (row_faults_here (env_of plan) (bindings_of n.bindings) (names_told n.bound frames d) (names_told n'.bound frames' (d + opening (opens_told s.opens))) row rs (set_of n.bound) (here_names n k.stacked r last top) (past_names n k.stacked r last top s f place j v fl' fp), lines_cons term (r - first)) (writes_then (rw (j.faults_a.is y, j.faults_b.is y, j.faults_c.is y) at put) (rw next at q))));
-      })
+            k.rest y w₂ (rw (rows_next plan.words.now plan.rows.now r last there) (rw (row_faults_here (env_of plan) (bindings_of n.bindings) (names_told n.bound fs) (names_told n'.bound fs') row rs (set_of n.bound) (here_names fs n r low top) (past_names fs n r low top last s j fs' e), lines_cons term (r - first)) (writes_then (rw (j.faults_a.is y, j.faults_b.is y, j.faults_c.is y) at put) (rw next at q))));
+      }
 
-module _ {t : Bindings} {term first last : ℕ} {w₀ : Sink} {frames : List Frame} {d r : ℕ} {n : CodeNames} {w : Sink} (k : Walking t term first last w₀ frames d r n w) where
-  pub walking_row : {frames' : List Frame} {n' : CodeNames} {w' : Sink} {s : Step} (f : Frame) {u : ℕ} → r < last → d + 1 < length frames → (get_or frames d missing).level ≤ nth (words_of t.plan.now r) 0
-      → JudgesRow n n' (purpose_told (get_or frames d missing).purpose) (nth (words_of n.bindings.plan.now r) 1) (block_of (words_of n.bindings.plan.now r)) (rows_in n.bindings.plan.now last (r + 1)) f.bound s
-      → Writes (row_lines term (r - first) (letters_told s.faults)) w w' → Pushed frames (d + 1) f frames' → f.level ≡ nth (words_of t.plan.now r) 0 + 1 → purpose_told f.purpose ≡ opened_purpose (opens_told s.opens) → u ≡ opening (opens_told s.opens)
-      → Walking t term first last w₀ frames' (d + u) (r + 1) n' w'
-  walking_row {frames'} {n'} {w'} {s} f {u} there place deeper j put v fl fp fu =
-      let there_bindings : n.bindings ≡ t = k.bindings in
-      subst (λ (x : Bindings). Walking x term first last w₀ frames d r n w → (get_or frames d missing).level ≤ nth (words_of x.plan.now r) 0 → f.level ≡ nth (words_of x.plan.now r) 0 + 1 → Walking x term first last w₀ frames' (d + u) (r + 1) n' w')
-      there_bindings (λ k' deeper' fl'. row_put k' f there place deeper' j put v fl' fp fu) k deeper fl
+  pub walking_row : {t : Bindings} → Walking t term first last w₀ fs r n w → {fs' : List (Frame T)} {n' : CodeNames} {w' : Sink} (s : Step) {saved : List Bool} → r < last → last_level fs ≤ nth (row_words n r) 0 → Judged fs n n' r last saved s
+      → Writes (row_lines term (r - first) (letters_told s.faults)) w w' → Follows fs fs' n r s → Walking t term first last w₀ fs' (r + 1) n' w'
+  walking_row {t} k {fs'} {n'} {w'} s there deeper j put e =
+      let same : n.bindings ≡ t = k.bindings in
+      subst (λ (x : Bindings). Walking x term first last w₀ fs r n w → Walking x term first last w₀ fs' (r + 1) n' w') same (λ k'. row_put k' s there deeper j put e) k

@@ -1,5 +1,5 @@
 -- Laws of the buffers as they are filled. Assumes nothing.
-use Rattle.std.specs.Prelude.{None, ℕ, ◌+◌, ◌*◌, ◌≤◌, ◌<◌, Bool, true, false, List, [], eqb, length, drop}
+use Rattle.std.specs.Prelude.{None, ℕ, ◌+◌, ◌<◌, Bool, true, false, List, [], eqb, length, drop}
 use Rattle.std.proofs.Common.{arith, eqb-true}
 use Rattle.std.proofs.lemmas.Bool.{eqb-false}
 use Rattle.std.proofs.Math.Seq.{drop-length}
@@ -8,9 +8,8 @@ use Rattle.tokens.specs.Token.{until}
 use Rattle.std.proofs.Math.Path.{◌≡◌, refl}
 use Rattle.std.proofs.Math.Option.{Option, some, none}
 use Rattle.text.specs.Split.{split}
-use Rattle.layout.specs.Scan.{Tables, sort_at, add, close, scan, Fill, Whole}
+use Rattle.layout.specs.Scan.{Tables, sort_at, add, close, scan, Fill}
 use Rattle.layout.specs.Filling.{PutRow, Ended, Leads, rest}
-use Rattle.layout.specs.declared.Filled.{Filled}
 use Rattle.layout.specs.declared.Buffers.{Buffers}
 use Rattle.layout.proofs.Laws.{Inside, fill_none, fill_close, fill_add, end_kind, end_here}
 
@@ -46,9 +45,3 @@ filled_at_end s at b e = by_test (eqb (sort_at b.filled.tables) 7) refl where
   by_test : (t : Bool) → eqb (sort_at b.filled.tables) 7 ≡ t → Fill b.words.now b.filled.words b.rows.now b.filled.rows b.tables.now b.filled.tables (rest s at b) (then_some t b.filled) b.words.now b.rows.now b.tables.now
   by_test true q = rw (end_here s at at b.filled.tables here e refl (eqb-true _ _ q)) (fill_none _ _ _ _ _ _)
   by_test false q = nothing_filled _ _ _ _ _ _ _ _ _ _ (end_kind s at at b.filled.tables here e false refl (eqb-false _ _ q))
-
-pub whole_at_end : (len : ℕ) (f : Filled) → f.words ≤ len → 2 * f.rows ≤ len → 4 * f.tables ≤ len → Whole len (then_some (eqb (sort_at f.tables) 7) f)
-whole_at_end len f w n j = by_test (eqb (sort_at f.tables) 7) refl where
-  by_test : (t : Bool) → eqb (sort_at f.tables) 7 ≡ t → Whole len (then_some t f)
-  by_test true q = (w, n, j, eqb-true _ _ q)
-  by_test false q = tt

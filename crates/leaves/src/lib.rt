@@ -1,5 +1,6 @@
 // The writers of numbers, literals and quoted texts as C functions, for programs in Rust that measure them or compare them with
-// Rust's own. Each has the contract of the function that it calls.
+// Rust's own. Each has the contract of the function that it calls. A buffer, a position and one more than the room, and the halves of a number,
+// are parameters of their own, a slice passes as a pointer and a length, and 1 stands for yes: C has neither a `Sink` nor a `Wide`.
 #![tactic(auto)]
 
 ghost use Rattle.std.specs.Prelude.{◌≡◌, ◌+◌, ◌*◌, ◌^◌, cond, get_or};
@@ -16,16 +17,26 @@ use literal::quote::put_quoted;
 use text::number::Wide;
 use text::sink::Sink;
 
-#[unsafe(no_mangle)]
-pub extern "C" fn rizhavel_put_decimal(out: &mut [u8], at: usize, end: usize, n: u64) -> usize
-    ensures { Puts end (decimal n) out.old at out.new result }
+// A sink that stands at a position of the buffer. What is put into it is no closure: of one that is lent a sink it is not known that the sink
+// still has the same buffer afterwards.
+fn sink_at(out: &mut [u8], at: usize, end: usize) -> Sink<'_>
+    ensures buffer { result.out.ghost_name ≡ out.entry.ghost_name }
+    ensures bytes { result.out.now ≡ out.old }
+    ensures place { (result.at ≡ at) × (result.end ≡ end) }
 {
-    let mut w = Sink {
+    Sink {
         out,
         at,
         end,
         odd: 0,
-    };
+    }
+}
+
+#[unsafe(no_mangle)]
+pub extern "C" fn rizhavel_put_decimal(out: &mut [u8], at: usize, end: usize, n: u64) -> usize
+    ensures { Puts end (decimal n) out.old at out.new result }
+{
+    let mut w = sink_at(out, at, end);
     w.put_decimal(n);
     w.at
 }
@@ -40,12 +51,7 @@ pub extern "C" fn rizhavel_put_signed(
 ) -> usize
     ensures { Puts end (signed 128 (high * 2 ^ 64 + low)) out.old at out.new result }
 {
-    let mut w = Sink {
-        out,
-        at,
-        end,
-        odd: 0,
-    };
+    let mut w = sink_at(out, at, end);
     w.put_signed(Wide { high, low });
     w.at
 }
@@ -54,12 +60,7 @@ pub extern "C" fn rizhavel_put_signed(
 pub extern "C" fn rizhavel_put_quoted(out: &mut [u8], at: usize, end: usize, text: &[u8]) -> usize
     ensures { Puts end (quoted text.now) out.old at out.new result }
 {
-    let mut w = Sink {
-        out,
-        at,
-        end,
-        odd: 0,
-    };
+    let mut w = sink_at(out, at, end);
     put_quoted(&mut w, text);
     w.at
 }
@@ -76,12 +77,7 @@ pub extern "C" fn rizhavel_emit_int(
 ) -> usize
     ensures { Puts end (literal (builtin_int (get_or all ty BuiltinType.Bool)) (high * 2 ^ 64 + low)) out.old at out.new result }
 {
-    let mut w = Sink {
-        out,
-        at,
-        end,
-        odd: 0,
-    };
+    let mut w = sink_at(out, at, end);
     emit_int(&mut w, BuiltinType::from_index(ty), Wide { high, low });
     w.at
 }

@@ -4,14 +4,13 @@
 #![tactic(auto)]
 
 use context::body_context::BodyContext;
-use emits::stablemapset::contains;
 use lent_context::block::{BothWays, both_ways};
 use std::io;
 
 // The numbers of a set's bindings, each after a space.
 fn print_set(rt: &impl Print, set: &[bool]) -> io::Result<()> {
-    for b in 0..1024 {
-        if contains(set, b) {
+    for (b, is_in) in set.iter().enumerate() {
+        if *is_in {
             print!(rt; " {b}")?;
         }
     }

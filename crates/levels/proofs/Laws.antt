@@ -1,13 +1,13 @@
 -- Laws of levels and of the tables' rows. Assumes nothing.
 use Prim.Native.Nat.{ℕ, zero, suc, ◌+◌, ◌≤◌, ◌<◌}
 use mathlib.Core.Path.{◌≡◌, refl, ap, ◌∙◌}
-use mathlib.Core.Bool.{Bool, true, false, cond}
+use mathlib.Core.Bool.{Bool, true, false, cond, ◌&&◌}
 use mathlib.Core.List.{List, [], ◌∷◌, ◌++◌, map}
 use native.Mathlib.Omega.{arith}
 use lib.Dec.{eqb, ltb, leb}
 use lib.ListN.{length, take, set, get_or, length-map, get_or-map}
 use lib.Seq.{take-take, take-suc-set, length-take-le, get_or-take}
-use borrow.Author.Tests.{ne_eqb, lt-ltb, le-ltb, le-leb, lt-leb, ltb-true, ltb-false}
+use borrow.Author.Tests.{ne_eqb, le-leb, lt-leb, ltb-true, ltb-false}
 use mathlib.Core.Option.{Option}
 use Rattle.plan.specs.Constraint.{Constraint}
 use Rattle.values.specs.Value.{Wide}
@@ -97,30 +97,34 @@ module _ (stack : List ℕ) (depth : ℕ) (ws : List ℕ) (rs : List Row) (lv k 
   open_levels : length (map below_at (take depth stack)) ≡ depth
   open_levels = length-map (take depth stack) below_at ∙ length-take-le depth stack room
 
-  pub nested_deep : depth ≤ lv → nested (map below_at (take depth stack)) (block_of ws ∷ rs) ≡ false
+  at_level : lv < depth → get_or (map below_at (take depth stack)) lv nothing ≡ below_at (get_or stack lv 0)
+  unfolding below_at
+  at_level h = get_or-map below_at (take depth stack) lv 2 ∙ ap below_at (get_or-take depth stack lv 2 h ∙ any_default stack lv 2 0 (omega arith))
+
+  next_levels : lv < depth → lv + 1 < length stack → take (suc lv) (map below_at (take depth stack)) ++ (below (block_of ws) ∷ []) ≡ map below_at (take (lv + 2) (set stack (lv + 1) (below_code k)))
+  next_levels h g =
+      let z : lv + 2 ≡ suc (lv + 1) = omega arith in
+      let y : suc lv ≡ lv + 1 = omega arith in
+      let x : lv + 1 ≤ depth = omega arith in
+      rw (z, take-suc-set stack (lv + 1) (below_code k) g, map_snoc, take_map, y, take-take (lv + 1) depth stack x, below_law ws, ← below_by_kind (nth ws 1), ← is_kind)
+
+  -- such a row may not stand there
+  pub nested_not : (ltb lv depth && stands (get_or stack lv 0) k) ≡ false → nested (map below_at (take depth stack)) (block_of ws ∷ rs) ≡ false
   unfolding nested
-  nested_deep h = rw (level_is ws, ← is_level, open_levels, le-ltb lv depth h)
+  nested_not f = by_depth (ltb lv depth) refl where
+    by_depth : (b : Bool) → ltb lv depth ≡ b → nested (map below_at (take depth stack)) (block_of ws ∷ rs) ≡ false
+    by_depth false e = rw (level_is ws, ← is_level, open_levels, e)
+    by_depth true e = rw (level_is ws, ← is_level, open_levels, e, at_level (ltb-true lv depth e), may_law (get_or stack lv 0) ws, ← stands_by_kind (get_or stack lv 0) (nth ws 1), ← is_kind, rw e at f)
 
-  module _ (h : lv < depth) where
-    at_level : get_or (map below_at (take depth stack)) lv nothing ≡ below_at (get_or stack lv 0)
-    unfolding below_at
-    at_level = get_or-map below_at (take depth stack) lv 2 ∙ ap below_at (get_or-take depth stack lv 2 h ∙ any_default stack lv 2 0 (omega arith))
-
-    pub nested_not : stands (get_or stack lv 0) k ≡ false → nested (map below_at (take depth stack)) (block_of ws ∷ rs) ≡ false
-    unfolding nested
-    nested_not f = rw (level_is ws, ← is_level, open_levels, lt-ltb lv depth h, at_level, may_law (get_or stack lv 0) ws, ← stands_by_kind (get_or stack lv 0) (nth ws 1), ← is_kind, f)
-
-    next_levels : lv + 1 < length stack → take (suc lv) (map below_at (take depth stack)) ++ (below (block_of ws) ∷ []) ≡ map below_at (take (lv + 2) (set stack (lv + 1) (below_code k)))
-    next_levels g =
-        let z : lv + 2 ≡ suc (lv + 1) = omega arith in
-        let y : suc lv ≡ lv + 1 = omega arith in
-        let x : lv + 1 ≤ depth = omega arith in
-        rw (z, take-suc-set stack (lv + 1) (below_code k) g, map_snoc, take_map, y, take-take (lv + 1) depth stack x, below_law ws, ← below_by_kind (nth ws 1), ← is_kind)
-
-    pub nested_next : (code : ℕ) → code ≡ below_code k → stands (get_or stack lv 0) k ≡ true → lv + 1 < length stack
-        → nested (map below_at (take depth stack)) (block_of ws ∷ rs) ≡ nested (map below_at (take (lv + 2) (set stack (lv + 1) code))) rs
-    unfolding nested
-    nested_next code e f g = rw (e, level_is ws, ← is_level, open_levels, lt-ltb lv depth h, at_level, may_law (get_or stack lv 0) ws, ← stands_by_kind (get_or stack lv 0) (nth ws 1), ← is_kind, f, next_levels g)
+  -- it may, and what may stand below it is kept
+  pub nested_next : (ltb lv depth && stands (get_or stack lv 0) k) ≡ true → lv + 1 < length stack
+      → nested (map below_at (take depth stack)) (block_of ws ∷ rs) ≡ nested (map below_at (take (lv + 2) (set stack (lv + 1) (below_code k)))) rs
+  unfolding nested
+  nested_next f g = by_depth (ltb lv depth) refl where
+    by_depth : (b : Bool) → ltb lv depth ≡ b → nested (map below_at (take depth stack)) (block_of ws ∷ rs) ≡ nested (map below_at (take (lv + 2) (set stack (lv + 1) (below_code k)))) rs
+    by_depth false e = cc (rw e at f)
+    by_depth true e = let h = ltb-true lv depth e in
+        rw (level_is ws, ← is_level, open_levels, e, at_level h, may_law (get_or stack lv 0) ws, ← stands_by_kind (get_or stack lv 0) (nth ws 1), ← is_kind, rw e at f, next_levels h g)
 
 -- TABLES
 

@@ -18,7 +18,7 @@ use Rattle.values.specs.Words.{◌⧺◌, word}
 use Rattle.values.specs.Writes.{Writes}
 use Rattle.values.specs.declared.Words.{Words}
 use Rattle.values.proofs.Laws.{writes_stop}
-use Rattle.lists.specs.Items.{pattern_word, field_words, item, items}
+use Rattle.lists.specs.Items.{unbound, pattern_word, field_words, item, items}
 
 pub field_two : (t : List ℕ) (n : ℕ) → n + 1 ≡ length (split (eqb 58) t) → n ≡ 1
     → word (number (get_or (split (eqb 58) t) 0 [])) ⧺ word (number (get_or (split (eqb 58) t) 1 [])) ≡ some field_words ⊛ field t
@@ -89,6 +89,10 @@ items_none s = by_parts (split (eqb 44) s) (parts_some (eqb 44) s) where
   by_parts : (ps : List (List ℕ)) → 0 < length ps → items 0 ps ≡ none
   by_parts [] h = absurd (omega arith)
   by_parts (p ∷ ps) h = refl
+
+pub pattern_unbound : (t : List ℕ) → same t (95 ∷ []) ≡ true → some pattern_word ⊛ pattern_binding t ≡ some unbound
+unfolding pattern_binding ◌⊛◌
+pattern_unbound t h = rw h
 
 pub pattern_number : (t : List ℕ) → same t (95 ∷ []) ≡ false → some pattern_word ⊛ pattern_binding t ≡ number t
 unfolding pattern_binding ◌⊛◌

@@ -25,6 +25,7 @@ pub enum ListOf {
 pub const UNBOUND: u32 = 65537;
 
 // An arm's binding: a number, or `_` for none.
+#[tactic(auto, using(crate::proofs::Laws::pattern_unbound, crate::proofs::Laws::pattern_number), unfolding(tokens::specs::Token::told))]
 fn read_pattern_binding(t: &[u8]) -> Option<u32>
     ensures { result ≡ told (some pattern_word ⊛ pattern_binding t.now) }
 {

@@ -1,11 +1,10 @@
 -- How the code casts a value, which it has in two halves of 64 bits. Assumes nothing.
-use Rattle.std.specs.Prelude.{ℕ, suc, ◌+◌, ◌-◌, ◌*◌, ◌%◌, ◌^◌, ◌≤◌, ◌<◌, ◌≡◌, refl, Bool, true, false, cond, ◌&&◌, ◌++◌, leb, ltb, eqb}
-use Rattle.std.proofs.Common.{sym, ap, ◌∙◌, add-zero, mul_assoc, mod-eq_of_lt, mul-le-mul_right, lt_of_lt_of_le, mod-lt, arith, lit≤, le-leb, lt-ltb, le-ltb, ltb-true, ltb-false, eqb-true, eq-eqb}
+use Rattle.std.specs.Prelude.{ℕ, suc, ◌+◌, ◌-◌, ◌*◌, ◌%◌, ◌^◌, ◌≤◌, ◌<◌, ◌≡◌, refl, Bool, true, false, ◌&&◌, ltb, eqb}
+use Rattle.std.proofs.Common.{sym, ap, ◌∙◌, mul-le-mul_right, lt_of_lt_of_le, mod-lt, arith, lit≤, le-leb, lt-ltb, le-ltb, ltb-true, ltb-false, eqb-true, eq-eqb}
 use Rattle.std.proofs.lemmas.Bool.{lt-leb}
 use Rattle.std.proofs.Math.Bool.{and-eq-true_iff}
-use Rattle.std.proofs.Math.Nat.{mul-add-mod_self_right, pow-le-pow_right, two-pow-succ, one-le-pow}
-use Rattle.text.specs.Codes.{codes}
-use Rattle.text.specs.Digits.{hexadecimal, signed}
+use Rattle.std.proofs.Math.Nat.{pow-le-pow_right, two-pow-succ, one-le-pow}
+use Rattle.text.specs.Digits.{signed}
 use Rattle.literal.specs.declared.builtin_type.IntType.{IntType}
 use Rattle.literal.specs.BuiltinType.{is_signed, bits}
 use Rattle.literal.specs.Literal.{written_bits, in_range}
@@ -16,36 +15,10 @@ use Rattle.literal.proofs.ReadBack.{read_back_value, read_back_outside}
 
 -- THE CAST
 
--- b is the number of values of a width of at most 64 bits: the lower half decides
-pub narrow : (q b high low : ℕ) → 2 ^ 64 ≡ q * b → (high * 2 ^ 64 + low) % b ≡ low % b
-narrow q b high low e = rw (e, ← mul_assoc) (mul-add-mod_self_right (high * q) b low)
-
-pub narrow_64 : (high low : ℕ) → low < 2 ^ 64 → (high * 2 ^ 64 + low) % 2 ^ 64 ≡ low
-narrow_64 high low h = mul-add-mod_self_right high (2 ^ 64) low ∙ mod-eq_of_lt h
-
 wide_fits : (high low : ℕ) → high < 2 ^ 64 → low < 2 ^ 64 → high * 2 ^ 64 + low < 2 ^ 128
 wide_fits high low h l =
     let a : high * 2 ^ 64 + low < suc high * 2 ^ 64 = omega arith in
     lt_of_lt_of_le a (mul-le-mul_right (2 ^ 64) h)
-
--- all the bits are kept, with a sign bit or without
-pub uncast : (s : Bool) (high low : ℕ) → high < 2 ^ 64 → low < 2 ^ 64 → high * 2 ^ 64 + low ≡ extend_bits s 128 ((high * 2 ^ 64 + low) % 2 ^ 128)
-uncast s high low h l = rw (mod-eq_of_lt (wide_fits high low h l)) (sym (same (s && leb (2 ^ 127) (high * 2 ^ 64 + low)) (high * 2 ^ 64 + low)))
-  where
-    same : (b : Bool) (n : ℕ) → cond b (n + 0) n ≡ n
-    same true n = add-zero n
-    same false n = refl
-
--- the sign bit is not set
-pub extended_plus : {m : ℕ} (n half x : ℕ) → m ≡ n → n < half → m ≡ cond (leb half n) x n
-extended_plus n half x q h = rw (lt-leb half n h) q
-
--- the sign bit is set: the upper half is all ones
-pub extended_minus : (n half : ℕ) → 1 ≤ half → half ≤ n → half ≤ 2 ^ 63 → (2 ^ 64 - 1) * 2 ^ 64 + (n + (2 ^ 64 - 1 - half - (half - 1))) ≡ cond (leb half n) (n + (2 ^ 128 - (half + half))) n
-extended_minus n half z h l = rw (le-leb half n h) (go ((2 ^ 64 - 1) * 2 ^ 64) (2 ^ 64) (2 ^ 128) refl (omega arith))
-  where
-    go : (k m all : ℕ) → all ≡ k + m → half + half ≤ m → k + (n + (m - 1 - half - (half - 1))) ≡ n + (all - (half + half))
-    go k m all e l = omega arith
 
 -- THE LITERAL WITHOUT ITS SUFFIX
 
@@ -86,9 +59,6 @@ module _ (t : IntType) (v x : ℕ) (cast : x ≡ extend_bits (is_signed t) (writ
       let c : ℕ = v % 2 ^ written_bits t in
       let s : signed (written_bits t) c ≡ signed 128 (extend_bits true (written_bits t) c) = signed_extended (written_bits t) c some_bits most (mod-lt v (one-le-pow (written_bits t) 2 (lit≤ tt))) in
       rw e (s ∙ ap (signed 128) (sym (rw e at cast)))
-
-  pub number_unsigned : is_signed t ≡ false → number_text t v ≡ codes "0x" ++ hexadecimal x
-  number_unsigned e = rw (e, rw e at cast)
 
 -- IN RANGE
 

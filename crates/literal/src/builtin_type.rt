@@ -22,6 +22,7 @@ pub enum IntType {
     ISize,
 }
 
+// sema.rs's own enum, and so no Option of an integer type.
 #[derive(Clone, Copy, PartialEq, Eq)]
 pub enum BuiltinType {
     Bool,
@@ -94,13 +95,13 @@ impl BuiltinType {
     pub fn from_index(i: usize) -> BuiltinType
         ensures { result ≡ get_or all i BuiltinType.Bool }
     {
-        match BuiltinType::ALL.get(i) {
-            Some(ty) => *ty,
-            None => BuiltinType::Bool,
-        }
+        BuiltinType::ALL
+            .get(i)
+            .copied()
+            .unwrap_or(BuiltinType::Bool)
     }
 
-    // The number of the type: its place in `ALL`.
+    // The number of the type: its place in `ALL`. No `From`: it publishes sema.rs's own function, under its name.
     pub fn to_usize(self) -> usize
         ensures { result ≡ to_usize self }
     {

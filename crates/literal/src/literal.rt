@@ -14,19 +14,13 @@ use super::builtin_type::{BuiltinType, IntType};
 use text::number::Wide;
 use text::sink::Sink;
 
-fn zero_extended(n: u64) -> Wide
-    ensures { whole result ≡ n }
-{
-    Wide { high: 0, low: n }
-}
-
 // The two's complement n of a type with 2 * half values: the sign bit is copied to the left.
 fn sign_extended(n: u64, half: u64) -> Wide
     requires { (1 ≤ half) × (half ≤ 2 ^ 63) × (n < half + half) }
     ensures { whole result ≡ cond (leb half n) (n + (2 ^ 128 - (half + half))) n }
 {
     if n < half {
-        return zero_extended(n);
+        return Wide::from(n);
     }
     Wide {
         high: u64::MAX,
@@ -39,10 +33,10 @@ fn cast(ty: IntType, val: Wide) -> Wide
     ensures { whole result ≡ extend_bits (is_signed ty) (written_bits ty) (whole val % 2 ^ written_bits ty) }
 {
     match ty {
-        IntType::U8 => zero_extended(val.low % 256),
-        IntType::U16 => zero_extended(val.low % 65536),
-        IntType::U32 => zero_extended(val.low % 4294967296),
-        IntType::U64 => zero_extended(val.low),
+        IntType::U8 => Wide::from(val.low % 256),
+        IntType::U16 => Wide::from(val.low % 65536),
+        IntType::U32 => Wide::from(val.low % 4294967296),
+        IntType::U64 => Wide::from(val.low),
         IntType::I8 => sign_extended(val.low % 256, 128),
         IntType::I16 => sign_extended(val.low % 65536, 32768),
         IntType::I32 => sign_extended(val.low % 4294967296, 2147483648),
@@ -68,6 +62,7 @@ pub fn rust_int_literal(w: &mut Sink<'_>, ty: IntType, val: Wide)
 }
 
 // The literal without its suffix.
+#[tactic(auto, using(crate::proofs::CastLaws::number_signed))]
 fn put_cast(w: &mut Sink<'_>, ty: IntType, val: Wide)
     ensures { Writes (number_text ty (whole val)) w.old w.new }
 {
@@ -80,6 +75,7 @@ fn put_cast(w: &mut Sink<'_>, ty: IntType, val: Wide)
 }
 
 // A value of a type that is no integer type is written as `{:#x}` writes it.
+#[tactic(auto, unfolding(crate::specs::Literal::literal))]
 pub fn emit_int(w: &mut Sink<'_>, ty: BuiltinType, val: Wide)
     ensures { Writes (literal (builtin_int ty) (whole val)) w.old w.new }
 {
@@ -101,6 +97,7 @@ fn fixed_width(ty: IntType) -> IntType
 }
 
 // A value lies in its type's range where the cast does not change it.
+#[tactic(auto, using(crate::proofs::CastLaws::in_range_cast))]
 fn in_range(ty: IntType, val: Wide) -> bool
     ensures { result ≡ in_range ty (whole val) }
 {
@@ -108,6 +105,7 @@ fn in_range(ty: IntType, val: Wide) -> bool
 }
 
 // Whether the value lies outside its type's range.
+#[tactic(auto, unfolding(crate::specs::Literal::odd))]
 pub fn is_odd(ty: BuiltinType, val: Wide) -> bool
     ensures { result ≡ odd (builtin_int ty) (whole val) }
 {

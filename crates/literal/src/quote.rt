@@ -19,8 +19,8 @@ fn put_escaped(w: &mut Sink<'_>, text: &[u8])
 {
     // Where what is put next begins: at the text's start, or at the last byte that has a backslash before it.
     let mut first = 0;
-    for i in 0..text.len() {
-        if is_escaped(text[i]) {
+    for (i, byte) in text.iter().enumerate() {
+        if is_escaped(*byte) {
             w.put_part(text, first, i);
             w.put_byte(b'\\');
             first = i;

@@ -1,12 +1,12 @@
 -- Patterns from a word of a row on, one by one. Assumes nothing.
-use Rattle.std.specs.Prelude.{◌≡◌, refl, Bool, true, false, cond, ◌||◌, List, [], ◌∷◌, ◌++◌, ℕ, suc, ◌+◌, ◌≤◌, ◌<◌, length, drop, eqb}
+use Rattle.std.specs.Prelude.{Some, None, slice_get, ◌≡◌, refl, Bool, true, false, cond, ◌||◌, List, [], ◌∷◌, ◌++◌, ℕ, suc, ◌+◌, ◌≤◌, ◌<◌, length, drop}
 use Rattle.std.specs.List.{list_any}
 use Rattle.std.proofs.Common.{arith}
+use Rattle.std.proofs.lemmas.Option.{same_Some}
 use Rattle.std.proofs.Math.Option.{Option, some, none}
 use Rattle.text.specs.Codes.{codes}
 use Rattle.text.specs.Writes.{Writes}
 use Rattle.text.specs.declared.sink.Sink.{Sink}
-use Rattle.lists.specs.Items.{unbound}
 use Rattle.plan.specs.Plan.{Fields, Environment}
 use Rattle.rows.specs.View.{nth, pattern_of, patterns_in}
 use Rattle.codegen.specs.Piece.{fix, unbrace, break, odd_piece, odd_pieces}
@@ -21,14 +21,14 @@ use Rattle.row_frames.specs.Patterns.{patterns_cons, patterns_end}
 
 -- `_`
 
-pub any_skipped : (ws : List ℕ) → list_any (λ b. eqb b unbound) ws ≡ skipped_some (patterns_in ws)
+pub any_skipped : (ws : List ℕ) → list_any (λ b. skipped_some (pattern_of b ∷ [])) ws ≡ skipped_some (patterns_in ws)
 unfolding skipped_some patterns_in
 any_skipped [] = refl
-any_skipped (b ∷ ws) = by (eqb b unbound) (any_skipped ws)
+any_skipped (b ∷ ws) = by (pattern_of b) (any_skipped ws)
   where
-    by : (x : Bool) → list_any (λ y. eqb y unbound) ws ≡ skipped_some (patterns_in ws) → (x || list_any (λ y. eqb y unbound) ws) ≡ skipped_some (cond x none (some b) ∷ patterns_in ws)
-    by true h = refl
-    by false h = h
+    by : (p : Option ℕ) → list_any (λ y. skipped_some (pattern_of y ∷ [])) ws ≡ skipped_some (patterns_in ws) → (skipped_some (p ∷ []) || list_any (λ y. skipped_some (pattern_of y ∷ [])) ws) ≡ skipped_some (p ∷ patterns_in ws)
+    by none h = refl
+    by (some b) h = h
 
 -- FIELDS
 
@@ -78,6 +78,17 @@ emits_fields f [] v h g p x s = absurd (h refl)
 emits_fields f (b ∷ ws) v h g p x s = emits_say refl (shows_brace p shows_none) ⟫ x ⟫ rw (← g) (emits_say (odd_last v) s)
 
 -- CONSTRAINTS
+
+-- the first word of a list, and that there is none
+pub patterns_first : (x : ℕ) (ws : List ℕ) → Some x ≡ slice_get ws 0 → patterns_in ws ≡ pattern_of x ∷ patterns_in (drop 1 ws)
+unfolding patterns_in
+patterns_first x [] h = cc
+patterns_first x (y ∷ ws) h = rw (same_Some _ _ h)
+
+pub patterns_none : (ws : List ℕ) → None ≡ slice_get ws 0 → patterns_in ws ≡ []
+unfolding patterns_in
+patterns_none [] h = refl
+patterns_none (y ∷ ws) h = cc
 
 -- inside `Some(` and `)`: the binding is a reference if the source is one
 pub emits_given : {env : Environment} {d : ℕ} {w : Sink} {r r' : Marks} {q b : ℕ} (x : Bool) → contains r q ≡ x → r' ≡ cond x (insert r b) r → Emits env d (ask q (λ y. cond y (mark b) nothing)) w r w r'

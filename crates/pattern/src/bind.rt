@@ -1,15 +1,13 @@
-// The bindings of an arm's pattern: the list of row r, where a word stands for `_`.
-ghost use Rattle.std.specs.Prelude.{◌≡◌, drop};
+// The list of an arm's pattern, where a word stands for `_`.
+ghost use Rattle.std.specs.Prelude.{◌≡◌};
 ghost use Rattle.rows.specs.View.{patterns_in};
 ghost use Rattle.codegen.specs.Pattern.{skipped_some};
-ghost use Rattle.view.specs.Buffers.{words_of};
 
-use lists::UNBOUND;
-use view::buffers::Plan;
+use view::block::pattern_of;
 
-// Whether row r has a `_`.
-pub fn skipped_some(plan: &Plan<'_>, r: usize) -> bool
-    ensures { result ≡ skipped_some (patterns_in (drop 7 (words_of plan.now r))) }
+// Whether the list has a `_`.
+pub fn skipped_some(list: &[u32]) -> bool
+    ensures { result ≡ skipped_some (patterns_in list.now) }
 {
-    plan.list(r, 7).iter().any(|word| *word == UNBOUND)
+    list.iter().any(|word| pattern_of(*word).is_none())
 }

@@ -1,10 +1,10 @@
 // What an arm asks of its match's source q: codegen.rs 1077, `emit_constraint`.
-ghost use Rattle.std.specs.Prelude.{ℕ, drop};
+ghost use Rattle.std.specs.Prelude.{ℕ};
 ghost use Rattle.plan.specs.Plan.{Environment};
 ghost use Rattle.plan.specs.Constraint as constraint;
 ghost use Rattle.rows.specs.View.{patterns_in};
 ghost use Rattle.codegen.specs.Pattern.{inside_some, emit_constraint};
-ghost use Rattle.view.specs.Buffers.{words_of, env_of};
+ghost use Rattle.view.specs.Buffers.{env_of};
 ghost use Rattle.view.specs.Told.{constraint_told};
 ghost use Rattle.emits.specs.Runs.{Emits};
 ghost use Rattle.emits.specs.Marks.{set_of};
@@ -15,10 +15,9 @@ use consts::pieces::put_var;
 use consts::{emit_bool, emit_int};
 use emits::stablemapset::{contains, insert};
 use expr_parts::{const_prim, type_name, variant_name};
-use row_frames::pattern_of;
 use sema::types::TypeId;
 use text::sink::Sink;
-use view::block::Constraint;
+use view::block::{Constraint, pattern_of};
 use view::buffers::Plan;
 
 // A variant k of an enum, with its fields.
@@ -29,14 +28,14 @@ fn emit_variant(
     depth: usize,
     ty: TypeId,
     k: usize,
-    r: usize,
+    list: &[u32],
 )
-    ensures { VariantsIndexed plan.now → let env = env_of plan.now in (q : ℕ) → Emits env depth (emit_constraint env q (constraint.Variant ty.0 k) (patterns_in (drop 7 (words_of plan.now r)))) w.old (set_of refs.old) w.new (set_of refs.new) }
+    ensures { VariantsIndexed plan.now → let env = env_of plan.now in (q : ℕ) → Emits env depth (emit_constraint env q (constraint.Variant ty.0 k) (patterns_in list.now)) w.old (set_of refs.old) w.new (set_of refs.new) }
 {
     let variant = ty.variant(plan, k);
     w.put_bytes(b"&");
     variant_name(w, plan, ty, variant.name);
-    emit_fields(w, plan, refs, depth, &variant.fields, r);
+    emit_fields(w, plan, refs, depth, &variant.fields, list);
 }
 
 // A struct, with its fields.
@@ -46,24 +45,23 @@ fn emit_struct(
     refs: &mut [bool],
     depth: usize,
     ty: TypeId,
-    r: usize,
+    list: &[u32],
 )
-    ensures { let env = env_of plan.now in (q : ℕ) → Emits env depth (emit_constraint env q (constraint.Struct ty.0) (patterns_in (drop 7 (words_of plan.now r)))) w.old (set_of refs.old) w.new (set_of refs.new) }
+    ensures { let env = env_of plan.now in (q : ℕ) → Emits env depth (emit_constraint env q (constraint.Struct ty.0) (patterns_in list.now)) w.old (set_of refs.old) w.new (set_of refs.new) }
 {
     w.put_bytes(b"&");
     type_name(w, plan, ty);
-    emit_fields(w, plan, refs, depth, &ty.fields(plan), r);
+    emit_fields(w, plan, refs, depth, &ty.fields(plan), list);
 }
 
 // What stands inside `Some(` and `)`: a reference if the source is one.
-fn put_inside_some(w: &mut Sink<'_>, plan: &Plan<'_>, refs: &mut [bool], q: usize, r: usize)
-    ensures { (env : Environment) (d : ℕ) → Emits env d (inside_some q (patterns_in (drop 7 (words_of plan.now r)))) w.old (set_of refs.old) w.new (set_of refs.new) }
+fn put_inside_some(w: &mut Sink<'_>, refs: &mut [bool], q: usize, list: &[u32])
+    ensures { (env : Environment) (d : ℕ) → Emits env d (inside_some q (patterns_in list.now)) w.old (set_of refs.old) w.new (set_of refs.new) }
 {
-    let list = plan.list(r, 7);
-    if list.is_empty() {
+    let Some(word) = list.first() else {
         return;
-    }
-    let Some(b) = pattern_of(list[0]) else {
+    };
+    let Some(b) = pattern_of(*word) else {
         return w.put_bytes(b"_");
     };
     if contains(refs, q) {
@@ -72,15 +70,15 @@ fn put_inside_some(w: &mut Sink<'_>, plan: &Plan<'_>, refs: &mut [bool], q: usiz
     put_var(w, b);
 }
 
-fn emit_some(w: &mut Sink<'_>, plan: &Plan<'_>, refs: &mut [bool], q: usize, r: usize)
-    ensures { (env : Environment) (d : ℕ) → Emits env d (emit_constraint env q constraint.Some (patterns_in (drop 7 (words_of plan.now r)))) w.old (set_of refs.old) w.new (set_of refs.new) }
+fn emit_some(w: &mut Sink<'_>, refs: &mut [bool], q: usize, list: &[u32])
+    ensures { (env : Environment) (d : ℕ) → Emits env d (emit_constraint env q constraint.Some (patterns_in list.now)) w.old (set_of refs.old) w.new (set_of refs.new) }
 {
     w.put_bytes(b"Some(");
-    put_inside_some(w, plan, refs, q, r);
+    put_inside_some(w, refs, q, list);
     w.put_bytes(b")");
 }
 
-// The constraint c, with the bindings of row r.
+// The constraint c, with the bindings of the pattern's list.
 pub fn emit_constraint(
     w: &mut Sink<'_>,
     plan: &Plan<'_>,
@@ -88,18 +86,18 @@ pub fn emit_constraint(
     depth: usize,
     q: usize,
     c: Constraint,
-    r: usize,
+    list: &[u32],
 )
-    ensures { VariantsIndexed plan.now → let env = env_of plan.now in Emits env depth (emit_constraint env q (constraint_told c) (patterns_in (drop 7 (words_of plan.now r)))) w.old (set_of refs.old) w.new (set_of refs.new) }
+    ensures { VariantsIndexed plan.now → let env = env_of plan.now in Emits env depth (emit_constraint env q (constraint_told c) (patterns_in list.now)) w.old (set_of refs.old) w.new (set_of refs.new) }
 {
     match c {
         Constraint::ConstBool { val } => emit_bool(w, val),
         Constraint::ConstInt { ty, val } => emit_int(w, TypeId(ty), val),
         Constraint::ConstPrim { val } => const_prim(w, plan, val),
         Constraint::Variant { ty, variant } => {
-            emit_variant(w, plan, refs, depth, TypeId(ty), variant, r)
+            emit_variant(w, plan, refs, depth, TypeId(ty), variant, list)
         }
-        Constraint::Struct { ty } => emit_struct(w, plan, refs, depth, TypeId(ty), r),
-        Constraint::Some => emit_some(w, plan, refs, q, r),
+        Constraint::Struct { ty } => emit_struct(w, plan, refs, depth, TypeId(ty), list),
+        Constraint::Some => emit_some(w, refs, q, list),
     }
 }

@@ -1,23 +1,23 @@
 // The fields of a variant's or a struct's pattern: codegen.rs 1136, `emit_fields`. No literal stands in them.
-ghost use Rattle.std.specs.Prelude.{◌≡◌, refl, cond, [], ◌∷◌, ◌++◌, ℕ, drop};
+ghost use Rattle.std.specs.Prelude.{◌≡◌, refl, cond, [], ◌∷◌, ◌++◌, ℕ};
 ghost use Rattle.plan.specs.Plan.{Environment};
 ghost use Rattle.rows.specs.View.{patterns_in};
 ghost use Rattle.codegen.specs.Piece.{fix, unbrace, break};
 ghost use Rattle.codegen.specs.Writer.{say, mark, ◌▸◌, nothing};
 ghost use Rattle.codegen.specs.Pattern.{field_patterns, emit_fields};
-ghost use Rattle.view.specs.Buffers.{words_of, env_of};
+ghost use Rattle.view.specs.Buffers.{env_of};
 ghost use Rattle.emits.specs.Runs.{Emits};
 ghost use Rattle.emits.specs.Sinks.{Shows};
 ghost use Rattle.emits.specs.Marks.{set_of};
 ghost use Rattle.sema.specs.Fields.{fields_read};
-ghost use Rattle.row_frames.specs.Told.{pattern_told};
+ghost use Rattle.view.specs.Told.{pattern_told};
 
 use super::bind::skipped_some;
 use consts::pieces::{put_break, put_var};
 use emits::stablemapset::insert;
-use row_frames::pattern_of;
 use sema::fields::Fields;
 use text::sink::Sink;
+use view::block::pattern_of;
 use view::buffers::Plan;
 
 // A field whose type is passed by reference is bound as one.
@@ -63,12 +63,12 @@ fn field_patterns(
     refs: &mut [bool],
     depth: usize,
     f: &Fields<'_>,
-    r: usize,
+    list: &[u32],
 )
-    ensures emits { let env = env_of plan.now in Emits env depth (field_patterns env (fields_read f.now) 0 (patterns_in (drop 7 (words_of plan.now r)))) w.old (set_of refs.old) w.new (set_of refs.new) }
+    ensures emits { let env = env_of plan.now in Emits env depth (field_patterns env (fields_read f.now) 0 (patterns_in list.now)) w.old (set_of refs.old) w.new (set_of refs.new) }
     ensures odd { w.new.odd ≡ w.old.odd }
 {
-    for (i, word) in plan.list(r, 7).iter().enumerate() {
+    for (i, word) in list.iter().enumerate() {
         field_pattern(w, plan, refs, depth, f, i, pattern_of(*word));
     }
 }
@@ -92,15 +92,15 @@ pub fn emit_fields(
     refs: &mut [bool],
     depth: usize,
     f: &Fields<'_>,
-    r: usize,
+    list: &[u32],
 )
-    ensures emits { let env = env_of plan.now in Emits env depth (emit_fields env (fields_read f.now) (patterns_in (drop 7 (words_of plan.now r)))) w.old (set_of refs.old) w.new (set_of refs.new) }
+    ensures emits { let env = env_of plan.now in Emits env depth (emit_fields env (fields_read f.now) (patterns_in list.now)) w.old (set_of refs.old) w.new (set_of refs.new) }
     ensures odd { w.new.odd ≡ w.old.odd }
 {
-    if plan.list(r, 7).is_empty() {
+    if list.is_empty() {
         return;
     }
     w.put_bytes(b" {");
-    field_patterns(w, plan, refs, depth, f, r);
-    put_skipped(w, depth, skipped_some(plan, r));
+    field_patterns(w, plan, refs, depth, f, list);
+    put_skipped(w, depth, skipped_some(list));
 }

@@ -10,19 +10,20 @@ ghost use Rattle.plan.specs.Refusal.{refusal};
 ghost use Rattle.refusal.specs.Number.{number};
 ghost use Rattle.programs.specs.Printed.{refused_line, accepted_line, verdict, printed, numbers, counted, shown};
 
-use emitter::Text;
+use emitter::{Numbers, Text};
 use refusal::Refusal;
 use std::io;
 use std::io::{ErrorKind, Print, Read};
 use text::sink::Sink;
 
-// The line `refused N`.
+// The line `refused N`. This and the next two make a sink and give how far it came: a function for that, with what is put as a closure, would
+// take as many lines, and each closure a clause of its own for what it writes.
 fn put_refusal(out: &mut [u8; 65536], refusal: Refusal) -> usize
     ensures { take result out.new ≡ refused_line (number refusal) }
 {
     let mut w = Sink::new(out, 65537);
     w.put_bytes(b"refused ");
-    w.put_decimal(u32::from(refusal) as u64);
+    w.put_decimal(u64::from(u32::from(refusal)));
     w.put_byte(b'\n');
     w.at
 }
@@ -41,14 +42,13 @@ fn put_accepted(out: &mut [u8; 65536]) -> usize
 fn put_counts(r: Result<Text, Refusal>, out: &mut [u8; 65536]) -> usize
     ensures { take result out.new ≡ numbers r }
 {
-    let number = r.err().map_or(0, u32::from);
-    let text = r.unwrap_or_default();
+    let numbers = Numbers::from(r);
     let mut w = Sink::new(out, 65537);
-    w.put_decimal(number as u64);
+    w.put_decimal(u64::from(numbers.number));
     w.put_byte(b' ');
-    w.put_decimal(text.length as u64);
+    w.put_decimal(numbers.length as u64);
     w.put_byte(b' ');
-    w.put_decimal(text.count as u64);
+    w.put_decimal(numbers.count as u64);
     w.put_byte(b'\n');
     w.at
 }
@@ -131,6 +131,7 @@ fn read_some<R: Read>(input: &mut R, buf: &mut [u8]) -> io::Result<usize>
 pub fn read_full<R: Read>(input: &mut R, buf: &mut [u8]) -> io::Result<usize>
     ensures { IfOk result (λ n. n ≤ length buf.new) }
 {
+    // No `for` and no chain: a read may give less than is asked for, so what is left to read is known after each.
     let mut done = 0;
     while done < buf.len() {
         let n = read_some(input, &mut buf[done..])?;

@@ -38,7 +38,8 @@ fn all_allowed(s: &[u8]) -> bool
     good
 }
 
-// What the buffers hold, as a plan's buffers; its variants are not indexed.
+// What the buffers hold, as a plan's buffers; its variants are not indexed. This and the next are functions of their own, over a `&Buffers`:
+// several fields of a `&mut Buffers` lent as `&` side by side in one function are not covered by the borrow checker.
 fn view_of<'a>(bytes: &'a [u8], buffers: &'a Buffers<'_>) -> Plan<'a>
     ensures { Views bytes.now buffers.now result }
 {
@@ -80,13 +81,12 @@ pub fn read_into(plan: &[u8], buffers: &mut Buffers<'_>, above: &mut [u8]) -> Re
     }
     buffers.rows[0] = 0;
     buffers.tables[0] = 0;
-    let Some(filled) = buffers.fill(plan) else {
-        return Err(Refusal::Layout);
-    };
+    let filled = buffers.fill(plan).ok_or(Refusal::Layout)?;
     let laid = view_of(plan, buffers);
     if !levels::all_fit(&laid, filled.rows, filled.tables, above) {
         return Err(Refusal::Layout);
     }
+    // By its fields: a `From<Filled>` for this one place would name them in its body and in its clause.
     Ok(Held {
         rows: filled.rows,
         tables: filled.tables,

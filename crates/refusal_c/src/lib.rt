@@ -4,7 +4,7 @@
 ghost use Rattle.std.specs.Prelude.{◌≡◌};
 ghost use Rattle.plan.specs.Refusal.{refusal};
 
-// A `&[u8]` passes as a pointer and a length. 0: the plan is accepted.
+// A `&[u8]` passes as a pointer and a length. A number, since C has no Option of an enum; 0: the plan is accepted.
 #[unsafe(no_mangle)]
 pub extern "C" fn rizhavel_refusal(plan: &[u8]) -> u32
     ensures { result ≡ refusal plan.now }

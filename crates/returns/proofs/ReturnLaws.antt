@@ -17,7 +17,7 @@ use Rattle.emits.specs.Runs.{Emits, emits_say}
 use Rattle.context.specs.Closing.{overflow_action}
 use Rattle.context.specs.Laws.{action_is}
 use Rattle.context.specs.declared.body_context.Nesting.{Nesting}
-use Rattle.body.specs.Told.{StandsIn}
+use Rattle.body.specs.Told.{StandsAt, StandsIn}
 use Rattle.body.specs.Lines.{LinesLead, lines_words, lines_overflow}
 use Rattle.returns.specs.ReturnLines.{overflow_lines}
 
@@ -29,11 +29,11 @@ emits_by_kind kind.Iterator many one p q x = emits_say refl (shows_fix x shows_n
 emits_by_kind kind.Option many one p q x = emits_say refl (shows_fix x shows_none)
 emits_by_kind kind.Plain many one p q x = emits_say refl (shows_fix x shows_none)
 
-module _ {env : Environment} {i : Option ℕ} {n : Nesting} {fs : List Frame} (s : StandsIn n fs) {w w₁ w₂ w' : Sink} {q : Marks} where
+module _ {env : Environment} {i : Option ℕ} {fs : List Frame} {w w₁ w₂ w' : Sink} {q : Marks} where
   -- fixed pieces as a line
-  pub lines_pieces : {ps : List Piece} → odd_pieces ps ≡ 0 → Writes (spaces (4 * n.depth)) w w₁ → Shows env n.depth ps w₁ w₂ → Writes (10 ∷ []) w₂ w' → LinesLead env i fs (λ r. words ps ∷ []) (λ r. r) w q w' q
+  pub lines_pieces : {d : ℕ} {ps : List Piece} → StandsAt d fs → odd_pieces ps ≡ 0 → Writes (spaces (4 * d)) w w₁ → Shows env d ps w₁ w₂ → Writes (10 ∷ []) w₂ w' → LinesLead env i fs (λ r. words ps ∷ []) (λ r. r) w q w' q
   unfolding said
-  lines_pieces {ps} z x y t = lines_words {v = say ps} s.depth x (emits_say z y) t
+  lines_pieces {ps = ps} h z x y t = lines_words {v = say ps} h x (emits_say z y) t
 
-  pub lines_limit : {w₃ w₄ : Sink} → Writes (spaces (4 * n.depth)) w w₁ → Writes (codes "if returns.len() >= MAX_ISLE_RETURNS { ") w₁ w₂ → Writes (overflow_action n.in_closure) w₂ w₃ → Writes (codes " }") w₃ w₄ → Writes (10 ∷ []) w₄ w' → LinesLead env i fs (λ r. overflow_lines) (λ r. r) w q w' q
-  lines_limit x a b c t = lines_overflow s.depth x (writes_then a (writes_then (rw (s.closure, ← action_is (closures fs)) at b) c)) t
+  pub lines_limit : {n : Nesting} → StandsIn n fs → {w₃ w₄ : Sink} → Writes (spaces (4 * n.depth)) w w₁ → Writes (codes "if returns.len() >= MAX_ISLE_RETURNS { ") w₁ w₂ → Writes (overflow_action n.in_closure) w₂ w₃ → Writes (codes " }") w₃ w₄ → Writes (10 ∷ []) w₄ w' → LinesLead env i fs (λ r. overflow_lines) (λ r. r) w q w' q
+  lines_limit s x a b c t = lines_overflow s.depth x (writes_then a (writes_then (rw (s.closure, ← action_is (closures fs)) at b) c)) t

@@ -10,7 +10,7 @@ ghost use Rattle.codegen.specs.ReturnKind.{by_return_kind};
 ghost use Rattle.codegen.specs.Writer.{Marks};
 ghost use Rattle.emits.specs.Marks.{set_of};
 ghost use Rattle.sema.specs.Signature.{return_kind_told};
-ghost use Rattle.body.specs.Told.{env_in, body_told, StandsIn};
+ghost use Rattle.body.specs.Told.{env_in, body_told, StandsAt, StandsIn};
 ghost use Rattle.body.specs.Lines.{LinesLead};
 ghost use Rattle.body.specs.Own.{WritesOwn};
 ghost use Rattle.body.specs.Words.{HasDepth, WritesWords};
@@ -18,7 +18,7 @@ ghost use Rattle.returns.specs.ReturnLines.{rule_lines, overflow_lines};
 
 use body::Body;
 use context::block::put_iter_overflow_action;
-use context::body_context::{BodyContext, Nesting};
+use context::body_context::Nesting;
 use emits::stablemapset::contains;
 use expr_parts::put_clone;
 use sema::signature::ReturnKind;
@@ -26,27 +26,27 @@ use sema::texts::{Text, put_quoted_text, put_text};
 use text::sink::Sink;
 
 // Where the rule stands.
-fn put_rule(w: &mut Sink<'_>, body: &Body<'_>, nesting: Nesting, p: usize)
-    ensures { (i : ℕ) (fs : List Frame) (q : Marks) → StandsIn nesting fs → LinesLead (env_in body.now) (some i) fs (λ x. rule_lines p) (λ x. x) w.old q w.new q }
+fn put_rule(w: &mut Sink<'_>, body: &Body<'_>, depth: usize, p: usize)
+    ensures { (i : ℕ) (fs : List Frame) (q : Marks) → StandsAt depth fs → LinesLead (env_in body.now) (some i) fs (λ x. rule_lines p) (λ x. x) w.old q w.new q }
 {
-    w.put_indent(nesting.depth);
+    w.put_indent(depth);
     w.put_bytes(b"// Rule at ");
-    put_text(w, body.plan, Text::Pos, p);
+    put_text(w, body.bindings.plan, Text::Pos, p);
     w.put_bytes(b".");
     w.put_byte(b'\n');
 }
 
 // The logging of the rule, if it is asked for.
 #[tactic(auto, using(body::specs::Lines::lines_none), unfolding(codegen::specs::Block::log_lines))]
-fn put_log(w: &mut Sink<'_>, body: &Body<'_>, nesting: Nesting, p: usize)
-    ensures { (i : ℕ) (fs : List Frame) (q : Marks) → StandsIn nesting fs → LinesLead (env_in body.now) (some i) fs (λ x. log_lines (body_told body.now) p) (λ x. x) w.old q w.new q }
+fn put_log(w: &mut Sink<'_>, body: &Body<'_>, depth: usize, p: usize)
+    ensures { (i : ℕ) (fs : List Frame) (q : Marks) → StandsAt depth fs → LinesLead (env_in body.now) (some i) fs (λ x. log_lines (body_told body.now) p) (λ x. x) w.old q w.new q }
 {
     if body.log {
-        w.put_indent(nesting.depth);
+        w.put_indent(depth);
         w.put_bytes(b"log::debug!(\"ISLE {} {}\", ");
-        put_quoted_text(w, body.plan, Text::Sym, body.term_name);
+        put_quoted_text(w, body.bindings.plan, Text::Sym, body.term_name);
         w.put_bytes(b", ");
-        put_quoted_text(w, body.plan, Text::Pos, p);
+        put_quoted_text(w, body.bindings.plan, Text::Pos, p);
         w.put_bytes(b");");
         w.put_byte(b'\n');
     }
@@ -64,12 +64,19 @@ fn put_by_kind(w: &mut Sink<'_>, kind: ReturnKind, many: &[u8], one: &[u8])
 }
 
 // The result is asked about after it is written: one that is a reference is cloned.
-fn return_line(w: &mut Sink<'_>, body: &Body<'_>, context: &mut BodyContext, r: usize)
-    ensures { let b = body.now in WritesWords (HasDepth context.old r) b (return_line (body_told b) (set_of context.old.is_bound) r) w.old context.old w.new context.new }
+fn return_line(
+    w: &mut Sink<'_>,
+    body: &Body<'_>,
+    refs: &mut [bool],
+    bound: &[bool],
+    depth: usize,
+    r: usize,
+)
+    ensures { let b = body.now in WritesWords (HasDepth depth r) b depth (return_line (body_told b) (set_of bound.now) r) w.old refs.old w.new refs.new }
 {
     put_by_kind(w, body.ret_kind, b"returns.extend(Some(", b"return ");
-    body.emit_expr(w, context, r);
-    put_clone(w, false, contains(&context.is_ref, r));
+    body.emit_expr(w, refs, bound, depth, r);
+    put_clone(w, false, contains(refs, r));
     put_by_kind(w, body.ret_kind, b"));", b";");
 }
 
@@ -95,15 +102,24 @@ fn put_limit(w: &mut Sink<'_>, kind: ReturnKind, nesting: Nesting)
     }
 }
 
-// The return of r, by the rule at p.
-pub fn emit_return(w: &mut Sink<'_>, body: &Body<'_>, context: &mut BodyContext, r: usize, p: usize)
-    ensures { WritesOwn (HasDepth context.old r) body.now (λ q. returning (body_told body.now) (set_of context.old.is_bound) r p q) w.old context.old none w.new context.new }
+// The return of r, by the rule at p. That its line is not too deep is a premise and no type, since a type would ask it of callers that need
+// no more than the marks.
+pub fn emit_return(
+    w: &mut Sink<'_>,
+    body: &Body<'_>,
+    refs: &mut [bool],
+    bound: &[bool],
+    nesting: Nesting,
+    r: usize,
+    p: usize,
+)
+    ensures { WritesOwn (HasDepth nesting.depth r) body.now (StandsIn nesting) (λ q. returning (body_told body.now) (set_of bound.now) r p q) w.old refs.old none w.new refs.new bound.now }
 {
-    let nesting = context.nesting;
-    put_rule(w, body, nesting, p);
-    put_log(w, body, nesting, p);
-    w.put_indent(nesting.depth);
-    return_line(w, body, context, r);
+    let depth = nesting.depth;
+    put_rule(w, body, depth, p);
+    put_log(w, body, depth, p);
+    w.put_indent(depth);
+    return_line(w, body, refs, bound, depth, r);
     w.put_byte(b'\n');
     put_limit(w, body.ret_kind, nesting);
 }

@@ -1,6 +1,6 @@
 -- Laws about names, kept answers and lists. Assumes nothing.
 use Prim.Native.Nat.{ℕ, zero, suc, ◌+◌, ◌≤◌, ◌<◌}
-use mathlib.Core.Path.{◌≡◌, refl, sym, ap, ◌∙◌, subst}
+use mathlib.Core.Path.{◌≡◌, refl, sym, ap, ◌∙◌}
 use mathlib.Core.Bool.{Bool, true, false, cond, not, ◌&&◌, ◌||◌}
 use mathlib.Core.Option.{Option, some, none}
 use mathlib.Core.List.{List, [], ◌∷◌}
@@ -10,7 +10,7 @@ use native.Mathlib.Numerals.{add-one}
 use native.Mathlib.Omega.{arith}
 use lib.Dec.{eqb, ltb}
 use lib.ListN.{length, get_or, drop, drop_of_length-le}
-use lib.Seq.{drop-cons, get_or-drop, get_or-set_other}
+use lib.Seq.{drop-cons, get_or-set_other}
 use borrow.Author.Tests.{eqb-false, ltb-true, ltb-false}
 use Rattle.plan.specs.Plan.{Environment}
 use Rattle.plan.specs.Binding.{BindingRow}
@@ -20,24 +20,23 @@ use Rattle.codegen.specs.Writer.{Marks, contains, insert}
 use Rattle.codegen.specs.Pattern.{bind_all}
 use Rattle.codegen.specs.Block.{Purpose, body, arm_count, is_constant}
 use Rattle.origin.specs.Names.{listed, after_list, match_inside, match_opens, inside, opens, arm_inside, arm_opens}
-use Rattle.rows.specs.View.{nth, patterns_in, binding_of, block_of}
+use Rattle.rows.specs.View.{nth, patterns_in, block_of}
 use Rattle.layout.specs.View.{cut}
 use Rattle.view.specs.Told.{control_flow_of, constraint_of}
-use Rattle.checks.proofs.Blocks.{binding_is}
 use Rattle.row_frames.specs.Told.{purpose_told, opens_told}
 use Rattle.row_frames.specs.declared.Purpose as code
 use Rattle.row_frames.specs.declared.Purpose.TheVariants as purposes
 use Rattle.emits.specs.Marks.{set_of}
-use Rattle.row_frames.specs.Rows.{rows_from, rows_in, rows_next, rows_none}
+use Rattle.row_frames.specs.Rows.{rows_from, rows_next, rows_none}
 use Rattle.view.specs.BlockRows.{step_is, arm_is}
 use Rattle.splitting.specs.Cases.{false_true}
 use Rattle.schedule_rules.specs.Faults.{any, returns_many, holds, calls_below, calls, uses, loop_unbound, list_calls, check_calls, own_new, source_uses_own, match_uses_own, row_faults, nowhere}
 use Rattle.schedule_rules.specs.Found.{Lower, found}
 use Rattle.schedule_rules.proofs.Found.{sources_found}
-use Rattle.view.specs.Buffers.{words_of, rows_of, env_of}
+use Rattle.view.specs.Buffers.{env_of}
 use Rattle.expr_faults.specs.Kept.{bindings_of, asked_name, asked_call, answer, Known, Fresh, Finds}
 use Rattle.expr_faults.specs.declared.kept.Kept.{Kept}
-use Rattle.expr_faults.specs.declared.written.Bindings.{Bindings}
+use Rattle.view.specs.declared.bindings.Bindings.{Bindings}
 use Rattle.expr_faults.specs.declared.written.Question.{Question}
 use Rattle.expr_faults.proofs.Laws.{fresh_known, fresh_latest}
 use Rattle.row_faults.specs.Ready.{Ready, Decides, member_calls}
@@ -236,11 +235,6 @@ module _ (bs : List BindingRow) (m : Marks) (q : ℕ) (ws : List ℕ) where
   unfolding own_used
   own_asked env h = rw h (sym (uses_asked env))
 
--- the first source of a binding
-pub first_source : (t : Bindings) (b : ℕ) → nth (get_or (rows_of t.plan.now t.table) b []) 6 ≡ get_or (binding_at (bindings_of t) b).sources 0 0
-unfolding binding_of
-first_source t b = rw (binding_is (rows_of t.plan.now t.table) b) (sym (get_or-drop 6 (get_or (rows_of t.plan.now t.table) b []) 0 0))
-
 -- STEPS
 
 module _ {n n' : Names} {s : Step} where
@@ -348,7 +342,7 @@ module _ {n n' : Names} {saved : List Bool} (ws : List ℕ) (rs : List Row) wher
   })
 
   -- n₁ is of the names after the list
-  judges_step : {n₁ : Names} {p : Purpose} {s s' : Step} {found : Bool} → ltb (nth ws 1) 4 ≡ true → NamesBecome n (listed (drop 7 ws) (set_of n.bound)) n₁
+  pub judges_step : {n₁ : Names} {p : Purpose} {s s' : Step} {found : Bool} → ltb (nth ws 1) 4 ≡ true → NamesBecome n (listed (drop 7 ws) (set_of n.bound)) n₁
       → Decides n.bindings (λ env bs. list_calls env bs (set_of n.bound) (drop 7 ws)) found → JudgesStep n₁ n' (control_flow_of ws) (nth ws 0) rs s → ((nth ws 1 ≡ 3 → ⊥) → saved ≡ n₁.bound)
       → s'.faults.a ≡ s.faults.a → s'.faults.b ≡ (s.faults.b || found) → s'.faults.c ≡ s.faults.c → s'.opens ≡ s.opens → JudgesRow n n' p (nth ws 1) (block_of ws) rs saved s'
   unfolding after_list row_faults
@@ -365,17 +359,6 @@ module _ {n n' : Names} {saved : List Bool} (ws : List ℕ) (rs : List Row) wher
         faults_b = record { is = λ l. b ∙ or_comm s.faults.b found ∙ rw (d.is l, jb.is l) };
         faults_c = record { is = λ l. c ∙ jc.is l };
       })
-
--- the same as code reads the row after the list
-pub judges_listed : {n n₁ n' : Names} {saved : List Bool} {p : Purpose} {s s' : Step} {found : Bool} (r last : ℕ) → ltb (nth (words_of n.bindings.plan.now r) 1) 4 ≡ true → NamesBecome n (listed (drop 7 (words_of n.bindings.plan.now r)) (set_of n.bound)) n₁
-    → Decides n.bindings (λ env bs. list_calls env bs (set_of n.bound) (drop 7 (words_of n.bindings.plan.now r))) found
-    → JudgesStep n₁ n' (control_flow_of (words_of n₁.bindings.plan.now r)) (nth (words_of n₁.bindings.plan.now r) 0) (rows_in n₁.bindings.plan.now last (r + 1)) s → ((nth (words_of n₁.bindings.plan.now r) 1 ≡ 3 → ⊥) → saved ≡ n₁.bound)
-    → s'.faults.a ≡ s.faults.a → s'.faults.b ≡ (s.faults.b || found) → s'.faults.c ≡ s.faults.c → s'.opens ≡ s.opens
-    → JudgesRow n n' p (nth (words_of n.bindings.plan.now r) 1) (block_of (words_of n.bindings.plan.now r)) (rows_in n.bindings.plan.now last (r + 1)) saved s'
-judges_listed {n} {n₁} {n'} {saved} {p} {s} r last h g d j v =
-    judges_step (words_of n.bindings.plan.now r) (rows_in n.bindings.plan.now last (r + 1)) h g d
-    (subst (λ (t : Bindings). JudgesStep n₁ n' (control_flow_of (words_of t.plan.now r)) (nth (words_of t.plan.now r) 0) (rows_in t.plan.now last (r + 1)) s) g.bindings j)
-    (subst (λ (t : Bindings). (nth (words_of t.plan.now r) 1 ≡ 3 → ⊥) → saved ≡ n₁.bound) g.bindings v)
 
 -- an arm that is no arm of a match of several
 module _ {n : Names} {s : Step} where

@@ -9,7 +9,7 @@ use Rattle.schedule_rules.specs.Found.{Lower}
 use Rattle.view.specs.Buffers.{env_of}
 use Rattle.expr_faults.specs.Kept.{bindings_of, Known, Latest}
 use Rattle.expr_faults.specs.declared.kept.Kept.{Kept}
-use Rattle.expr_faults.specs.declared.written.Bindings.{Bindings}
+use Rattle.view.specs.declared.bindings.Bindings.{Bindings}
 
 -- where the names are `bound`, what is kept for the number says of each binding whether a call that returns many is written with it
 pub record Ready (t : Bindings) (bound : Marks) (k : Kept) : Type 0 where

@@ -1,5 +1,5 @@
 // The faults of a step after its list, and what it does to the names: codegen.rs 741 to 841.
-ghost use Rattle.std.specs.Prelude.{◌≡◌, not, List, ℕ, ◌+◌, ◌<◌, get_or};
+ghost use Rattle.std.specs.Prelude.{◌≡◌, false, not, List, ℕ, ◌+◌, ◌<◌, get_or};
 ghost use Rattle.plan.specs.Lookup.{binding_at};
 ghost use Rattle.plan.specs.Row.{Row, Match, Loop};
 ghost use Rattle.codegen.specs.Writer.{contains};
@@ -20,21 +20,14 @@ use emits::stablemapset::contains;
 use expr_faults::written::{Question, expr_holds};
 use row_frames::{Purpose, arms_of, opened_by};
 use view::block::ControlFlow;
+use view::word_in;
 
-// The faults of a row, by their letters.
-#[derive(Clone, Copy)]
+// The faults of a row, by their letters: by default none.
+#[derive(Clone, Copy, Default)]
 pub struct Letters {
     pub a: bool,
     pub b: bool,
     pub c: bool,
-}
-
-impl Letters {
-    pub const NONE: Letters = Letters {
-        a: false,
-        b: false,
-        c: false,
-    };
 }
 
 // The faults of a row, and the frame that it opens.
@@ -45,13 +38,11 @@ pub struct Step {
 }
 
 // (a): whether the iterator source of this result has no name.
-#[tactic(auto, using(crate::proofs::Laws::first_source))]
 fn loop_unbound(names: &Names<'_>, res: usize) -> bool
     ensures { result ≡ not (contains (set_of names.now.bound) (get_or (binding_at (bindings_of names.now.bindings) res).sources 0 0)) }
 {
-    let plan = names.bindings.plan;
-    let q = plan.word(plan.row_at(names.bindings.table, res), 6);
-    !contains(&names.bound, q)
+    let q = word_in(names.bindings.sources(res), 0);
+    !contains(&names.bound, q as usize)
 }
 
 // (b) of a result, or of one side of an `equal`.
@@ -66,7 +57,8 @@ fn expr_calls(names: &mut Names<'_>, b: usize) -> bool
     expr_holds(&mut names.kept, &question, &names.bindings, b)
 }
 
-// A match of a level with this source, where the rows from row `first` up to row `last` stand after it.
+// A match of a level with this source, where the rows from row `first` up to row `last` stand after it: two plain numbers, since a `Range`
+// is not Copy and would be made at each call.
 fn judge_match(names: &mut Names<'_>, level: usize, first: usize, last: usize, q: usize) -> Step
     ensures { JudgesStep names.old names.new (Match q) level (rows_in names.old.bindings.plan.now last first) result }
 {
@@ -77,7 +69,7 @@ fn judge_match(names: &mut Names<'_>, level: usize, first: usize, last: usize, q
         faults: Letters {
             b: calls,
             c: own,
-            ..Letters::NONE
+            ..Letters::default()
         },
         opens: opened_by(arms, q),
     }
@@ -92,9 +84,22 @@ fn judge_loop(names: &mut Names<'_>, res: usize) -> Step
     Step {
         faults: Letters {
             a: unbound,
-            ..Letters::NONE
+            ..Letters::default()
         },
         opens: Some(Purpose::Body),
+    }
+}
+
+// A row of which only (b) can be a fault: `found` says whether it is.
+pub(super) fn step_calls(found: bool, opens: Option<Purpose>) -> Step
+    ensures { (result.faults.a ≡ false) × (result.faults.b ≡ found) × (result.faults.c ≡ false) × (result.opens ≡ opens) }
+{
+    Step {
+        faults: Letters {
+            b: found,
+            ..Letters::default()
+        },
+        opens,
     }
 }
 
@@ -109,24 +114,12 @@ pub fn judge_check(names: &mut Names<'_>, r: usize, last: usize) -> Step
         ControlFlow::Equal { a, b } => {
             let first = expr_calls(names, a);
             let second = expr_calls(names, b);
-            Step {
-                faults: Letters {
-                    b: first | second,
-                    ..Letters::NONE
-                },
-                opens: Some(Purpose::Body),
-            }
+            step_calls(first | second, Some(Purpose::Body))
         }
         ControlFlow::Loop { result } => judge_loop(names, result),
         ControlFlow::Return { result, pos: _ } => {
             let found = expr_calls(names, result);
-            Step {
-                faults: Letters {
-                    b: found,
-                    ..Letters::NONE
-                },
-                opens: None,
-            }
+            step_calls(found, None)
         }
     }
 }

@@ -11,8 +11,10 @@ ghost use Rattle.row_faults.specs.Arms.{arm_names, arm_own, own_used};
 
 use super::names::Names;
 use expr_faults::kept::Kept;
-use expr_faults::written::{Bindings, Question, expr_holds};
+use expr_faults::written::{Question, expr_holds};
 use row_frames::{Arms, bind_all, is_constant};
+use view::bindings::Bindings;
+use view::heads::BLOCK_HEAD;
 
 // Whether the written expression of binding q holds a name that is not among those before.
 #[tactic(auto, using(expr_faults::proofs::Laws::fresh_known, expr_faults::proofs::Laws::fresh_latest))]
@@ -40,7 +42,7 @@ fn name_own(names: &mut Names<'_>, q: usize, r: usize) -> bool
     ensures found { Decides names.old.bindings (λ env bs. own_used bs (set_of names.old.bound) q (words_of names.old.bindings.plan.now r)) result }
 {
     let before = names.bound;
-    if !bind_all(&mut names.bound, names.bindings.plan, r) {
+    if !bind_all(&mut names.bound, names.bindings.plan.list(r, BLOCK_HEAD)) {
         return false;
     }
     names.kept.raise();

@@ -1,4 +1,5 @@
-// The names of a term's bindings, and the answers that are kept for them: these are given up only where a name is new.
+// The names of a term's bindings, and the answers that are kept for them: these are given up where a name is new, where a frame closes, and
+// where (c) was asked, since its answers are to another question.
 ghost use Rattle.std.specs.Prelude.{◌≡◌};
 ghost use Rattle.codegen.specs.Writer.{insert};
 ghost use Rattle.codegen.specs.Terms.{no_marks};
@@ -7,7 +8,17 @@ ghost use Rattle.row_faults.specs.Ready.{Ready};
 
 use emits::stablemapset::{empty, insert};
 use expr_faults::kept::Kept;
-use expr_faults::written::Bindings;
+use view::bindings::Bindings;
+
+// Binding b gets a name. What is kept of the answers is given up only where it had none.
+pub fn bind(kept: &mut Kept<'_>, bound: &mut [bool], b: usize)
+    ensures names { set_of bound.new ≡ insert (set_of bound.old) b }
+    ensures ready { (bindings : Bindings) → Ready bindings (set_of bound.old) kept.old → Ready bindings (set_of bound.new) kept.new }
+{
+    if insert(bound, b) {
+        kept.raise();
+    }
+}
 
 // Which of these bindings have names at a row, and what is kept of the answers where these have.
 #[derive(Drop)]
@@ -34,13 +45,11 @@ impl<'a> Names<'a> {
 
 impl Names<'_> {
     // Binding b gets a name.
-    pub(super) fn bind(&mut self, b: usize)
+    pub fn bind(&mut self, b: usize)
         ensures bindings { self.new.bindings ≡ self.old.bindings }
         ensures names { set_of self.new.bound ≡ insert (set_of self.old.bound) b }
     {
-        if insert(&mut self.bound, b) {
-            self.kept.raise();
-        }
+        bind(&mut self.kept, &mut self.bound, b);
     }
 
     // The names are those that were kept where a frame opened.

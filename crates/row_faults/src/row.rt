@@ -9,13 +9,14 @@ ghost use Rattle.emits.specs.Marks.{set_of};
 ghost use Rattle.row_faults.specs.Names.{NamesBecome};
 ghost use Rattle.row_faults.specs.Row.{JudgesArm, JudgesRow};
 
-use super::check::{Letters, Step, judge_check};
+use super::check::{Step, judge_check, step_calls};
 use super::list::list_calls;
 use super::names::Names;
 use row_frames::{Purpose, bind_all};
+use view::heads::BLOCK_HEAD;
 
-// The names are saved, unless row r is a `return`, which opens no frame. `save_scope` of `blocks` does the same by the step `enter_scope` of
-// codegen.rs, which has no part in a judgement.
+// The names are saved, unless row r is a `return`, which opens no frame. Not one function with `save_scope` of `blocks`: that goes through
+// codegen.rs's step `enter_scope`, which document 01 names, and a judgement has no part in it.
 fn save_names(saved: &mut [bool; 1024], names: &Names<'_>, r: usize)
     ensures { (nth (words_of names.now.bindings.plan.now r) 1 ≡ 3 → ⊥) → saved.new ≡ names.now.bound }
 {
@@ -28,7 +29,7 @@ fn save_names(saved: &mut [bool; 1024], names: &Names<'_>, r: usize)
 fn name_patterns(names: &mut Names<'_>, r: usize)
     ensures { NamesBecome names.old (bind_all (patterns_in (drop 7 (words_of names.old.bindings.plan.now r))) (set_of names.old.bound)) names.new }
 {
-    if bind_all(&mut names.bound, names.bindings.plan, r) {
+    if bind_all(&mut names.bound, names.bindings.plan.list(r, BLOCK_HEAD)) {
         names.kept.raise();
     }
 }
@@ -37,10 +38,7 @@ fn name_patterns(names: &mut Names<'_>, r: usize)
 fn faultless(opens: Option<Purpose>) -> Step
     ensures { (result.faults.a ≡ false) × (result.faults.b ≡ false) × (result.faults.c ≡ false) × (result.opens ≡ opens) }
 {
-    Step {
-        faults: Letters::NONE,
-        opens,
-    }
+    step_calls(false, opens)
 }
 
 // Row r, an arm inside a frame of a purpose.
@@ -72,7 +70,7 @@ pub fn judge_row(
         save_names(saved, names, r);
         return judge_arm(names, r, purpose);
     }
-    let calls = list_calls(names, r);
+    let calls = list_calls(&mut names.kept, &mut names.bound, &names.bindings, r);
     save_names(saved, names, r);
     let mut s = judge_check(names, r, last);
     s.faults.b |= calls;

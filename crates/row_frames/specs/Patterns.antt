@@ -1,10 +1,9 @@
 -- Patterns from a word of a row on, one by one. Assumes nothing.
 use Rattle.std.specs.Prelude.{ℕ, ◌+◌, ◌≤◌, ◌<◌, ◌≡◌, refl, List, [], ◌∷◌, length, drop}
-use Rattle.std.proofs.Common.{sym, add-one, drop_of_length-le, drop-cons, eq-eqb, ne_eqb}
+use Rattle.std.proofs.Common.{sym, add-one, drop_of_length-le, drop-cons}
 use Rattle.std.proofs.Math.Option.{Option, some, none}
 use Rattle.codegen.specs.Pattern.{bind_all}
 use Rattle.codegen.specs.Writer.{Marks}
-use Rattle.lists.specs.Items.{unbound}
 use Rattle.rows.specs.View.{nth, pattern_of, patterns_in}
 
 -- A ROW'S PATTERNS
@@ -16,12 +15,6 @@ patterns_cons ws k h = rw (add-one, drop-cons ws k 0 h)
 pub patterns_end : (ws : List ℕ) (k : ℕ) → length ws ≤ k → patterns_in (drop k ws) ≡ []
 unfolding patterns_in
 patterns_end ws k h = rw (drop_of_length-le ws h)
-
-pub pattern_none : (b : ℕ) → b ≡ unbound → pattern_of b ≡ none
-pattern_none b h = rw (eq-eqb b unbound h)
-
-pub pattern_some : (b : ℕ) → (b ≡ unbound → ⊥) → pattern_of b ≡ some b
-pattern_some b h = rw (ne_eqb b unbound h)
 
 -- BINDINGS
 

@@ -1,6 +1,6 @@
 -- What the declared types say in the definition's terms. Assumes nothing: these are definitions.
 use Rattle.std.specs.Prelude as code
-use Rattle.std.specs.Prelude.{ℕ, Some, None}
+use Rattle.std.specs.Prelude.{Some, None}
 use Rattle.std.proofs.Math.Option.{Option, some, none}
 use Rattle.codegen.specs.Block as block
 use Rattle.row_frames.specs.declared.Purpose.{Purpose}
@@ -15,17 +15,3 @@ purpose_told p.Body = block.body
 abbrev pub opens_told : code.Option Purpose → Option block.Purpose
 opens_told None = none
 opens_told (Some p) = some (purpose_told p)
-
--- what the frame that a row opens is for, and how many it opens
-abbrev pub opened : Option block.Purpose → block.Purpose
-opened none = block.body
-opened (some p) = p
-
-abbrev pub opening : Option block.Purpose → ℕ
-opening none = 0
-opening (some p) = 1
-
--- a binding, or `_`
-abbrev pub pattern_told : code.Option ℕ → Option ℕ
-pattern_told None = none
-pattern_told (Some b) = some b

@@ -1,49 +1,14 @@
--- The kinds and their numbers: each is the other's inverse on the kinds. A number of no kind is read as one of those that there are.
--- Assumes nothing.
+-- The kinds and their numbers. A number of no kind is read as one of those that there are. Assumes nothing.
 use Rattle.std.specs.Prelude.{ℕ, ◌≡◌, refl, Bool, true, false, cond, ltb, min, ◌-◌, ◌<◌, ◌≤◌, get_or}
 use lib.ListN.{get_or-eq_default}
 use Rattle.std.proofs.Common.{arith, sym, ltb-true, ltb-false}
-use Rattle.rows.specs.declared.kinds.TypeKind.{TypeKind}
-use Rattle.rows.specs.declared.kinds.TypeKind.TheVariants as of_type
-use Rattle.rows.specs.declared.kinds.Shape.{Shape}
-use Rattle.rows.specs.declared.kinds.Shape.TheVariants as of_variant
-use Rattle.rows.specs.declared.kinds.BindingKind.{BindingKind}
-use Rattle.rows.specs.declared.kinds.BindingKind.TheVariants as of_binding
 use Rattle.rows.specs.declared.kinds.BlockKind.{BlockKind}
 use Rattle.rows.specs.declared.kinds.BlockKind.TheVariants as of_block
 use Rattle.plan.specs.Binding as binding
 use Rattle.plan.specs.Constraint as constraint
 use Rattle.plan.specs.Row as row
 use Rattle.rows.specs.View.{binding_makers, binding_made, step_makers, step_made, arm_makers, arm_made}
-use Rattle.rows.specs.Kinds.{type_number, type_kind, shape_number, shape_kind, binding_number, binding_kind, block_number, block_kind}
-
-pub type_again : (k : TypeKind) → type_kind (type_number k) ≡ k
-type_again of_type.Prim = refl
-type_again of_type.Enum = refl
-type_again of_type.Unit = refl
-type_again of_type.Named = refl
-type_again of_type.Tuple = refl
-
-pub shape_again : (k : Shape) → shape_kind (shape_number k) ≡ k
-shape_again of_variant.Unit = refl
-shape_again of_variant.Named = refl
-shape_again of_variant.Tuple = refl
-
-pub binding_again : (k : BindingKind) → binding_kind (binding_number k) ≡ k
-binding_again of_binding.ConstBool = refl
-binding_again of_binding.ConstInt = refl
-binding_again of_binding.ConstPrim = refl
-binding_again of_binding.Argument = refl
-binding_again of_binding.Extractor = refl
-binding_again of_binding.Constructor = refl
-binding_again of_binding.Iterator = refl
-binding_again of_binding.MakeVariant = refl
-binding_again of_binding.MakeStruct = refl
-binding_again of_binding.MakeSome = refl
-binding_again of_binding.MatchSome = refl
-binding_again of_binding.MatchTuple = refl
-binding_again of_binding.MatchVariant = refl
-binding_again of_binding.ExtractStruct = refl
+use Rattle.rows.specs.Kinds.{binding_number, binding_kind, block_number, block_kind}
 
 pub block_again : (k : BlockKind) → block_kind (block_number k) ≡ k
 block_again of_block.Match = refl
@@ -58,12 +23,6 @@ block_again of_block.Struct = refl
 block_again of_block.Some = refl
 
 -- the number of the kind that a number is read as: itself, if it is one
-
-pub type_numbered : (n : ℕ) → type_number (type_kind n) ≡ min n 4
-type_numbered n = grind arith
-
-pub shape_numbered : (n : ℕ) → shape_number (shape_kind n) ≡ min n 2
-shape_numbered n = grind arith
 
 pub block_numbered : (n : ℕ) → block_number (block_kind n) ≡ min n 9
 block_numbered n = grind arith

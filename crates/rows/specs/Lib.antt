@@ -1,3 +1,4 @@
+pub mod Cells
 pub mod Row
 pub mod View
 pub mod Kinds

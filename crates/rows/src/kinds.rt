@@ -1,7 +1,8 @@
 // The kinds of rows, by their names, and what the other values of a row are for each. The names are compared one by one: the default arm of
-// a `match` on them knows of the bytes alone, and its proof does not close. What reads a name answers an Option: with `TryFrom` the error's
+// a `match` on them knows of the bytes alone, and its proof does not close; a table of names searched by a loop has references in a constant
+// and a proof over them, and is no plainer. What reads a name answers an Option: with `TryFrom` the error's
 // type would say nothing. The numbers are those of the buffers' words (document 01); a word of no kind is read too, as the definition reads it.
-ghost use Rattle.std.specs.Prelude.{◌≡◌, ℕ, List, length, ltb, get_or, option_map};
+ghost use Rattle.std.specs.Prelude.{◌≡◌, ℕ, List, Some, length, ltb, get_or, option_map};
 ghost use Rattle.plan.specs.Lookup.{field_count};
 ghost use Rattle.tokens.specs.Token.{told, place};
 ghost use Rattle.values.specs.Value.{kind_word};
@@ -53,13 +54,14 @@ impl TypeKind {
         }
     }
 
+    // The same of another column: a table for each, as in the definition.
     pub fn pos(self) -> Cell
         ensures { cell_number result ≡ get_or type_poss (type_number self) 0 }
     {
-        if matches!(self, TypeKind::Prim) {
-            return Cell::Unused;
+        match self {
+            TypeKind::Prim => Cell::Unused,
+            _ => Cell::Number,
         }
-        Cell::Number
     }
 
     pub fn list(self) -> Option<ListOf>
@@ -349,14 +351,13 @@ impl BlockKind {
         }
     }
 
-    pub fn list(self) -> Option<ListOf>
-        ensures { sort_number result ≡ get_or block_lists (block_number self) 0 }
+    pub fn list(self) -> ListOf
+        ensures { sort_number (Some result) ≡ get_or block_lists (block_number self) 0 }
     {
         match self {
-            BlockKind::Match | BlockKind::Equal | BlockKind::Loop | BlockKind::Return => Some(
+            BlockKind::Match | BlockKind::Equal | BlockKind::Loop | BlockKind::Return =>
                 ListOf::Numbers,
-            ),
-            _ => Some(ListOf::Patterns),
+            _ => ListOf::Patterns,
         }
     }
 }

@@ -3,7 +3,9 @@
 
 pub mod kinds;
 
-ghost use Rattle.std.specs.Prelude.{◌≡◌, ◌+◌, ◌-◌, ◌<◌, length, get_or};
+ghost use Rattle.std.specs.Prelude.{◌≡◌, ◌+◌, ◌-◌, ◌<◌, ◌≤◌, eqb, length, get_or};
+ghost use Rattle.text.specs.Split.{split};
+ghost use Rattle.rows.specs.Cells.{cells};
 ghost use Rattle.values.specs.Writes.{Writes};
 ghost use Rattle.rows.specs.Row.{options_words, type_words, variant_words, term_words, generated_words, binding_words, block_words, text_words, row_words};
 ghost use Rattle.rows.specs.Table.{table_number};
@@ -28,17 +30,32 @@ pub enum Table {
     Block,
 }
 
+// Writes the columns of a line from one on, each as the sort of cell at its place says. Where a kind stands between them, what a row holds
+// is written value by value.
+fn put_cells(sorts: &[Cell], line: &Line<'_>, from: usize, words: &mut Words<'_>) -> Option<()>
+    requires { (from + length sorts.now ≤ length (split (eqb 32) line.now.text.now)) × (from + length sorts.now ≤ 9) }
+    ensures { Writes (cells sorts.now (split (eqb 32) line.now.text.now) from) words.old result words.new }
+{
+    for (k, sort) in sorts.iter().enumerate() {
+        words.push_cell(*sort, line.column(from + k))?;
+    }
+    Some(())
+}
+
 #[tactic(auto, using(values::proofs::Laws::writes_none, crate::proofs::Laws::row_lacks), unfolding(crate::specs::Row::options_words))]
 fn put_options(line: &[u8], words: &mut Words<'_>) -> Option<()>
     ensures { Writes (options_words line.now) words.old result words.new }
 {
     let line = Line::of(line, 4)?;
-    words.push_cell(Cell::Bit, line.column(0))?;
-    words.push_cell(Cell::Bit, line.column(1))?;
-    words.push_cell(Cell::Bit, line.column(2))?;
-    words.push_cell(Cell::Threshold, line.column(3))
+    put_cells(
+        &[Cell::Bit, Cell::Bit, Cell::Bit, Cell::Threshold],
+        &line,
+        0,
+        words,
+    )
 }
 
+// No `put_cells`: an array made for each row took 6 to 9 percent longer, where those of `put_options` and `put_term` took less.
 #[tactic(auto, using(values::proofs::Laws::writes_none, crate::proofs::Laws::row_lacks), unfolding(crate::specs::Row::type_words))]
 fn put_type(line: &[u8], words: &mut Words<'_>) -> Option<()>
     ensures { Writes (type_words line.now) words.old result words.new }
@@ -71,14 +88,17 @@ fn put_term(line: &[u8], words: &mut Words<'_>) -> Option<()>
     ensures { Writes (term_words line.now) words.old result words.new }
 {
     let line = Line::of(line, 9)?;
-    words.push_cell(Cell::Number, line.column(0))?;
-    words.push_cell(Cell::Number, line.column(1))?;
-    words.push_cell(Cell::Number, line.column(2))?;
-    words.push_cell(Cell::Bit, line.column(3))?;
-    words.push_cell(Cell::Bit, line.column(4))?;
-    words.push_cell(Cell::Function, line.column(5))?;
-    words.push_cell(Cell::Function, line.column(6))?;
-    words.push_cell(Cell::Bit, line.column(7))?;
+    let sorts = [
+        Cell::Number,
+        Cell::Number,
+        Cell::Number,
+        Cell::Bit,
+        Cell::Bit,
+        Cell::Function,
+        Cell::Function,
+        Cell::Bit,
+    ];
+    put_cells(&sorts, &line, 0, words)?;
     lists::put_list(Some(ListOf::Numbers), line.column(8), words)
 }
 
@@ -112,7 +132,7 @@ fn put_block_row(line: &[u8], words: &mut Words<'_>) -> Option<()>
     words.push(kind.into())?;
     words.push_cell(kind.a(), line.column(2))?;
     words.push_wide(kind.b(), line.column(3))?;
-    lists::put_list(kind.list(), line.column(4), words)
+    lists::put_list(Some(kind.list()), line.column(4), words)
 }
 
 // A text's words: its start and its end in the plan. The place is asked for beside the line, since the rows of the other tables are the

@@ -8,23 +8,22 @@ use native.Mathlib.Omega.{arith}
 use lib.Dec.{eqb, ltb}
 use lib.ListN.{length, drop, get_or, get_or-map, get_or-eq_default}
 use borrow.Author.Tests.{ltb-true, ltb-false}
+use Rattle.std.specs.Simd.{first_chunks}
 use Rattle.literal.specs.BuiltinType.{all, builtin_int}
 use Rattle.literal.specs.declared.builtin_type.BuiltinType.{BuiltinType}
 use Rattle.literal.specs.declared.builtin_type.BuiltinType.TheVariants as builtin
-use Rattle.plan.specs.Plan.{Field, unit, TypeData, Builtin, Primitive, Enum, Struct, FunctionKind, Term, Environment}
+use Rattle.plan.specs.Plan.{Field, TypeData, Builtin, Primitive, Enum, Struct, FunctionKind, Term, Environment}
 use Rattle.plan.specs.Lookup.{type_at, variants_of, variant_at, term_at}
 use Rattle.rows.specs.View.{nth, fields_in, shape_of, declared_of, type_of, variant_of, term_of}
 use Rattle.layout.specs.View.{text_of, environment_of}
 use Rattle.view.specs.Tables.{environment_in}
 use Rattle.view.specs.Buffers.{words_of, rows_of, variants_in, env_of}
 use Rattle.view.specs.declared.buffers.Plan.{Plan}
-use Rattle.rows.proofs.Laws.{fields_length}
 use Rattle.rows.specs.Kinds.{type_kind}
 use Rattle.rows.specs.contracts.kinds.TypeKind.{the_type}
 use Rattle.rows.specs.declared.kinds.TypeKind.{TypeKind}
 use Rattle.rows.specs.declared.kinds.TypeKind.TheVariants as kind
 use denote.Enum.Bare.{sameb}
-use denote.Enum.Declared.{tag_of}
 use Rattle.view.proofs.Plans.{table_of, types_count, builtin_is, type_is, term_is}
 use Rattle.variants.specs.Index.{variant_numbers}
 use Rattle.variants.proofs.Variants.{numbers_count, number_at}
@@ -32,33 +31,33 @@ use Rattle.codegen.specs.Piece.{fix, sym_text, pos_text, type_text}
 use Rattle.codegen.specs.ReturnKind.{ReturnKind}
 use Rattle.codegen.specs.ReturnKind as ret
 use Rattle.codegen.specs.Sema.{is_ref_type, int_type, func_name_of, full_name_of, is_external, extractor_sig, constructor_sig}
-use Rattle.sema.specs.contracts.texts.Text.{the_type as text_type}
 use Rattle.sema.specs.declared.texts.Text.{Text}
 use Rattle.sema.specs.declared.texts.Text.TheVariants as text
-use Rattle.sema.specs.Texts.{text_in}
+use Rattle.sema.specs.Texts.{text_in, text_table}
 use Rattle.sema.specs.Holds.{VariantsIndexed, SameVariants}
 
 -- FIELDS
 
--- a named field has two words
-field_words : (ws : List ℕ) (i : ℕ) → i < length ws / 2 → get_or (fields_in ws) i (record { name = 0; ty = 0 }) ≡ record { name = nth ws (2 * i); ty = nth ws (2 * i + 1) }
-unfolding fields_in
-field_words [] i h = absurd (omega arith)
-field_words (n ∷ []) i h = absurd (omega arith)
-field_words (n ∷ t ∷ ws) zero h = refl
-field_words (n ∷ t ∷ ws) (suc i) h =
-    let a : 2 * suc i ≡ suc (suc (2 * i)) = omega arith in
-    let b : suc (suc (2 * i)) + 1 ≡ suc (suc (2 * i + 1)) = omega arith in
-    rw (a, b) (field_words ws i (omega arith))
-
 abbrev field_of : List ℕ → ℕ → Field
 field_of ws i = get_or (fields_in ws) i (record { name = 0; ty = 0 })
 
-pub field_there : (ws : List ℕ) (i n t : ℕ) → i < length ws / 2 → n ≡ nth ws (2 * i) → t ≡ nth ws (2 * i + 1) → (n ≡ (field_of ws i).name) × (t ≡ (field_of ws i).ty)
-field_there ws i n t h p q = rw (field_words ws i h) (p, q)
+-- a named field has two words
+abbrev words_at : List ℕ → ℕ → List ℕ
+words_at ws i = get_or (first_chunks 2 (length ws / 2) ws) i []
 
-pub field_past : (ws : List ℕ) (i : ℕ) → length ws / 2 ≤ i → (0 ≡ (field_of ws i).name) × (0 ≡ (field_of ws i).ty)
-field_past ws i h = rw (get_or-eq_default (fields_in ws) (record { name = 0; ty = 0 }) {n = i} (rw (fields_length ws) h)) (refl, refl)
+field_words : (ws : List ℕ) (i : ℕ) → (nth (words_at ws i) 0 ≡ (field_of ws i).name) × (nth (words_at ws i) 1 ≡ (field_of ws i).ty)
+unfolding fields_in
+field_words [] i = (refl, refl)
+field_words (n ∷ []) i = (refl, refl)
+field_words (n ∷ t ∷ ws) zero = let z : length (n ∷ t ∷ ws) / 2 ≡ suc (length ws / 2) = omega arith in rw z (refl, refl)
+field_words (n ∷ t ∷ ws) (suc i) = let z : length (n ∷ t ∷ ws) / 2 ≡ suc (length ws / 2) = omega arith in rw z (field_words ws i)
+
+module _ (ws : List ℕ) (i : ℕ) {c : List (List ℕ)} (h : c ≡ first_chunks 2 (length ws / 2) ws) where
+  pub field_there : {a : List ℕ} → a ≡ get_or c i [] → (nth a 0 ≡ (field_of ws i).name) × (nth a 1 ≡ (field_of ws i).ty)
+  field_there q = rw (q, h) (field_words ws i)
+
+  pub field_past : length c ≤ i → (0 ≡ (field_of ws i).name) × (0 ≡ (field_of ws i).ty)
+  field_past g = let q : words_at ws i ≡ [] = get_or-eq_default (first_chunks 2 (length ws / 2) ws) [] {n = i} (rw h at g) in rw q at (field_words ws i)
 
 -- SIGNATURES
 
@@ -125,7 +124,7 @@ module _ (p : Plan) where
   pos_is n = sym (ap (λ (l : List (List ℕ)). get_or (map (text_of p.bytes.now) l) n []) (table_of p.words.now p.rows.now p.tables.now 3) ∙ get_or-map (text_of p.bytes.now) (rows_of p 3) n [])
 
   -- by the number of the table in which it stands
-  pub text_is : (of : Text) (n r : ℕ) → words_of p r ≡ get_or (rows_of p (tag_of text_type of + 1)) n [] → text_of p.bytes.now (words_of p r) ≡ text_in (env_of p) of n
+  pub text_is : (of : Text) (n r : ℕ) → words_of p r ≡ get_or (rows_of p (text_table of)) n [] → text_of p.bytes.now (words_of p r) ≡ text_in (env_of p) of n
   text_is text.File n r q = ap (text_of p.bytes.now) q ∙ file_is n
   text_is text.Sym n r q = ap (text_of p.bytes.now) q ∙ sym_is n
   text_is text.Pos n r q = ap (text_of p.bytes.now) q ∙ pos_is n
@@ -180,9 +179,6 @@ module _ {p : Plan} (h : VariantsIndexed p) where
 
   pub variants_none : (n : ℕ) → 256 ≤ n → 0 ≡ length (variants_of n (env_of p).variants)
   variants_none n g = sym (ap length (h.others n g))
-
-  pub variant_none : (n k : ℕ) → length (variants_of n (env_of p).variants) ≤ k → (0 ≡ (variant_at (env_of p) n k).name) × (unit ≡ (variant_at (env_of p) n k).fields)
-  variant_none n k g = rw (get_or-eq_default (variants_of n (env_of p).variants) (record { ty = 0; name = 0; fields = unit }) g) (refl, refl)
 
   pub variant_row : (n k : ℕ) → k < length (variants_of n (env_of p).variants) → variant_of (words_of p (nth (variants_in p n) k)) ≡ variant_at (env_of p) n k
   variant_row n k g = by_test (ltb n 256) refl where

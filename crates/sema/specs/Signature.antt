@@ -1,6 +1,6 @@
 -- What a signature read out of the buffers says in the definition's terms. Assumes nothing: these are definitions.
-use Rattle.std.specs.Prelude.{refl, ℕ, Bool, cond, List, [], ◌∷◌}
-use Rattle.plan.specs.Plan.{Term, Environment}
+use Rattle.std.specs.Prelude.{refl, Bool, cond, [], ◌∷◌}
+use Rattle.plan.specs.Plan.{Environment}
 use Rattle.plan.specs.Lookup.{term_at}
 use Rattle.codegen.specs.Piece.{Piece, fix}
 use Rattle.codegen.specs.ReturnKind as kind
@@ -28,7 +28,3 @@ sig_told env s = record {
   ret_tys = cond s.is_extractor (term_at env s.term.0).arg_tys ((term_at env s.term.0).ret_ty ∷ []);
   ret_kind = return_kind_told s.ret_kind;
 }
-
--- the types of a term's arguments, or that of its value
-abbrev pub tys_of : Bool → Term → List ℕ
-tys_of of_args m = cond of_args m.arg_tys (m.ret_ty ∷ [])

@@ -43,17 +43,16 @@ impl Fields<'_> {
         self.shape.field_count(self.list.len())
     }
 
-    // The named field i.
-    #[tactic(auto, using(crate::proofs::Laws::field_there, crate::proofs::Laws::field_past))]
+    // The named field i; each has two words.
     fn named(&self, i: usize) -> Field
         ensures { let f = get_or (fields_in self.now.list.now) i (record { name = 0; ty = 0 }) in (result.name ≡ f.name) × (result.ty ≡ f.ty) }
     {
-        if self.list.len() / 2 <= i {
-            return Field { name: 0, ty: 0 };
-        }
-        Field {
-            name: word_in(self.list, 2 * i) as usize,
-            ty: word_in(self.list, 2 * i + 1) as usize,
+        match self.list.as_chunks::<2>().0.get(i) {
+            Some([name, ty]) => Field {
+                name: *name as usize,
+                ty: *ty as usize,
+            },
+            None => Field { name: 0, ty: 0 },
         }
     }
 

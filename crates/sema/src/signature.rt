@@ -1,5 +1,4 @@
-// Signatures: `ExternalSig` of sema.rs 564, by value; its lists of types are read through `param_ty` and `ret_ty`, and are no slices: the one
-// type of a term's value reads as 0 where its row has too few words.
+// Signatures: `ExternalSig` of sema.rs 564, by value; its types are read through `param_ty` and `ret_ty`.
 ghost use Rattle.std.specs.Prelude.{◌≡◌, cond, ◌&&◌, [], ◌∷◌, ℕ, length, get_or};
 ghost use Rattle.plan.specs.Lookup.{term_at};
 ghost use Rattle.codegen.specs.Piece.{sym};
@@ -9,13 +8,14 @@ ghost use Rattle.rows.specs.View.{term_of};
 ghost use Rattle.view.specs.Buffers.{words_of, env_of};
 ghost use Rattle.view.specs.Told.{function_told};
 ghost use Rattle.emits.specs.Sinks.{Shows};
-ghost use Rattle.sema.specs.Signature.{return_kind_told, prefix, sig_told, tys_of};
+ghost use Rattle.sema.specs.Signature.{return_kind_told, prefix, sig_told};
 
 use super::texts::{Text, put_text};
 use super::types::TypeId;
 use text::sink::Sink;
 use view::buffers::Plan;
 use view::environment::FunctionKind;
+use view::heads::TERM_HEAD;
 use view::tables::TERMS;
 use view::word_in;
 
@@ -62,7 +62,7 @@ fn is_infallible(said: bool, func: FunctionKind) -> bool
 pub struct TermId(pub usize);
 
 impl TermId {
-    // The term's row.
+    // The term's row. Single cells of it are read by their number in the row, in the order of the table's names line.
     #[tactic(auto, using(crate::proofs::Laws::term_in_row))]
     fn row(self, plan: &Plan<'_>) -> usize
         ensures { term_of (words_of plan.now result) ≡ term_at (env_of plan.now) self.0 }
@@ -98,57 +98,68 @@ impl TermId {
         }
     }
 
-    // The types of the term's arguments, or that of its value as a list of one: how many, and the type i.
+    // The types of the term's arguments.
     #[tactic(auto, unfolding(rows::specs::View::term_of))]
-    fn ty_count(self, plan: &Plan<'_>, of_args: bool) -> usize
-        ensures { result ≡ length (tys_of of_args (term_at (env_of plan.now) self.0)) }
+    fn arg_tys<'a>(self, plan: &Plan<'a>) -> &'a [u32]
+        ensures { result.now ≡ (term_at (env_of plan.now) self.0).arg_tys }
     {
-        if of_args {
-            plan.list(self.row(plan), 8).len()
-        } else {
-            1
-        }
+        plan.list(self.row(plan), TERM_HEAD)
     }
 
+    // The type of its value, as a list of one: 0 where its row has too few words.
     #[tactic(auto, unfolding(rows::specs::View::term_of))]
-    fn ty(self, plan: &Plan<'_>, of_args: bool, i: usize) -> TypeId
-        ensures { result.0 ≡ get_or (tys_of of_args (term_at (env_of plan.now) self.0)) i 0 }
+    fn value_tys<'a>(self, plan: &Plan<'a>) -> &'a [u32]
+        ensures { result.now ≡ (term_at (env_of plan.now) self.0).ret_ty ∷ [] }
     {
-        let row = self.row(plan);
-        TypeId(if of_args {
-            word_in(plan.list(row, 8), i) as usize
-        } else if i == 0 {
-            plan.word(row, 2)
-        } else {
-            0
-        })
+        plan.row(self.row(plan)).get(2..3).unwrap_or(&[0])
     }
 }
 
 impl ExternalSig {
-    // An extractor takes the term's value and returns its arguments; a constructor does the opposite.
+    // An extractor takes the term's value and returns its arguments; a constructor does the opposite. A list each: one function of both would be
+    // told by a flag at each call which is meant.
+    fn param_tys<'a>(self, plan: &Plan<'a>) -> &'a [u32]
+        ensures { result.now ≡ (sig_told (env_of plan.now) self).param_tys }
+    {
+        if self.is_extractor {
+            self.term.value_tys(plan)
+        } else {
+            self.term.arg_tys(plan)
+        }
+    }
+
+    fn ret_tys<'a>(self, plan: &Plan<'a>) -> &'a [u32]
+        ensures { result.now ≡ (sig_told (env_of plan.now) self).ret_tys }
+    {
+        if self.is_extractor {
+            self.term.arg_tys(plan)
+        } else {
+            self.term.value_tys(plan)
+        }
+    }
+
     pub fn param_count(self, plan: &Plan<'_>) -> usize
         ensures { result ≡ length (sig_told (env_of plan.now) self).param_tys }
     {
-        self.term.ty_count(plan, !self.is_extractor)
+        self.param_tys(plan).len()
     }
 
     pub fn param_ty(self, plan: &Plan<'_>, i: usize) -> TypeId
         ensures { result.0 ≡ get_or (sig_told (env_of plan.now) self).param_tys i 0 }
     {
-        self.term.ty(plan, !self.is_extractor, i)
+        TypeId(word_in(self.param_tys(plan), i) as usize)
     }
 
     pub fn ret_count(self, plan: &Plan<'_>) -> usize
         ensures { result ≡ length (sig_told (env_of plan.now) self).ret_tys }
     {
-        self.term.ty_count(plan, self.is_extractor)
+        self.ret_tys(plan).len()
     }
 
     pub fn ret_ty(self, plan: &Plan<'_>, i: usize) -> TypeId
         ensures { result.0 ≡ get_or (sig_told (env_of plan.now) self).ret_tys i 0 }
     {
-        self.term.ty(plan, self.is_extractor, i)
+        TypeId(word_in(self.ret_tys(plan), i) as usize)
     }
 
     // The name of an internal function.

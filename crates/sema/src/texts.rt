@@ -3,18 +3,32 @@ ghost use Rattle.std.specs.Prelude.{◌≡◌};
 ghost use Rattle.literal.specs.Quote.{quoted};
 ghost use Rattle.text.specs.Writes.{Writes};
 ghost use Rattle.view.specs.Buffers.{env_of};
-ghost use Rattle.sema.specs.Texts.{text_in};
+ghost use Rattle.sema.specs.Texts.{text_in, text_table};
 
 use literal::quote::put_quoted;
 use text::sink::Sink;
 use view::buffers::Plan;
+use view::tables::{FILES, POSS, SYMS};
 
-// What has texts of its own, with the number of its table.
+// What has texts of its own.
 #[derive(Clone, Copy)]
 pub enum Text {
-    File = 1,
-    Sym = 2,
-    Pos = 3,
+    File,
+    Sym,
+    Pos,
+}
+
+// The number of its table.
+impl From<Text> for usize {
+    ghost from_gives = { λ of t. t ≡ text_table of };
+
+    fn from(of: Text) -> usize {
+        match of {
+            Text::File => FILES,
+            Text::Sym => SYMS,
+            Text::Pos => POSS,
+        }
+    }
 }
 
 impl Text {
@@ -23,7 +37,7 @@ impl Text {
     fn bytes<'a>(self, plan: &Plan<'a>, n: usize) -> &'a [u8]
         ensures { result.now ≡ text_in (env_of plan.now) self n }
     {
-        plan.text_at(plan.row_at(self as usize, n))
+        plan.text_at(plan.row_at(usize::from(self), n))
     }
 }
 

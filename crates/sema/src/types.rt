@@ -19,6 +19,7 @@ use rows::kinds::{Shape, TypeKind};
 use text::sink::Sink;
 use view::buffers::Plan;
 use view::environment::TypeData;
+use view::heads::{TYPE_HEAD, VARIANT_HEAD};
 
 // A type, and the list of its row, which has a struct's fields.
 #[derive(Clone, Copy)]
@@ -43,12 +44,13 @@ impl TypeId {
             },
             Some(row) => TypeRow {
                 ty: plan.type_at(row),
-                list: plan.list(row, 5),
+                list: plan.list(row, TYPE_HEAD),
             },
         }
     }
 
-    // `ty` of codegen.rs 610: whether a value of the type is passed by reference.
+    // `ty` of codegen.rs 610: whether a value of the type is passed by reference. A `match`: of a closure that holds the plan, `is_some_and`
+    // says nothing about its answer.
     #[tactic(auto, using(crate::proofs::Laws::row_ref), unfolding(codegen::specs::Sema::is_ref_type))]
     pub fn is_ref(self, plan: &Plan<'_>) -> bool
         ensures { result ≡ is_ref (env_of plan.now) self.0 }
@@ -137,7 +139,7 @@ impl TypeId {
             name: variant.name,
             fields: Fields {
                 shape: variant.shape,
-                list: plan.list(row, 3),
+                list: plan.list(row, VARIANT_HEAD),
             },
         }
     }

@@ -1,5 +1,5 @@
 // The start of a let: codegen.rs 694, `iter_return`, gives the type of the buffer for what a call returns many of.
-ghost use Rattle.std.specs.Prelude.{◌≡◌, ℕ};
+ghost use Rattle.std.specs.Prelude.{ℕ};
 ghost use Rattle.std.proofs.Math.Option.{none};
 ghost use Rattle.plan.specs.Plan.{Environment};
 ghost use Rattle.plan.specs.Lookup.{binding_at};
@@ -66,9 +66,9 @@ fn let_call(w: &mut Sink<'_>, plan: &Plan<'_>, depth: usize, sig: ExternalSig, b
 pub fn let_head(w: &mut Sink<'_>, body: &Body<'_>, depth: usize, b: usize)
     ensures { let c = body_told body.now in Shows c.env depth (let_head b (iter_return c.env (binding_at c.bindings b).binding)) w.old w.new }
 {
-    let row = body.plan.row_at(body.bindings, b);
-    match called(body.plan, body.plan.binding_at(row)) {
+    let plan = body.bindings.plan;
+    match called(plan, body.bindings.binding(b)) {
         None => let_value(w, b),
-        Some(sig) => let_call(w, body.plan, depth, sig, b),
+        Some(sig) => let_call(w, plan, depth, sig, b),
     }
 }

@@ -10,34 +10,37 @@ ghost use Rattle.step_parts.specs.Loops.{iterator_line};
 
 use body::Body;
 use consts::pieces::{put_break, put_var};
-use context::body_context::BodyContext;
 use pattern::constraint::emit_constraint;
 use row_frames::is_constant;
 use text::sink::Sink;
 use view::block::Constraint;
+use view::heads::BLOCK_HEAD;
 
 // codegen.rs 742: a match with one arm, which is row r and whose bindings have names already. Of a constant the source comes first.
 pub fn one_arm_head(
     w: &mut Sink<'_>,
     body: &Body<'_>,
-    context: &mut BodyContext,
+    refs: &mut [bool],
+    bound: &[bool],
+    depth: usize,
     q: usize,
     k: Constraint,
     r: usize,
 )
-    ensures { let b = body.now in WritesWords (HasDepth context.old q) b (one_arm_head (body_told b) (set_of context.old.is_bound) q (constraint_told k) (pattern_in b r)) w.old context.old w.new context.new }
+    ensures { let b = body.now in WritesWords (HasDepth depth q) b depth (one_arm_head (body_told b) (set_of bound.now) q (constraint_told k) (pattern_in b r)) w.old refs.old w.new refs.new }
 {
-    let depth = context.nesting.depth;
+    let plan = body.bindings.plan;
+    let list = plan.list(r, BLOCK_HEAD);
     if is_constant(k) {
         w.put_bytes(b"if ");
-        body.emit_expr(w, context, q);
+        body.emit_expr(w, refs, bound, depth, q);
         w.put_bytes(b" == ");
-        emit_constraint(w, body.plan, &mut context.is_ref, depth, q, k, r);
+        emit_constraint(w, plan, refs, depth, q, k, list);
     } else {
         w.put_bytes(b"if let ");
-        emit_constraint(w, body.plan, &mut context.is_ref, depth, q, k, r);
+        emit_constraint(w, plan, refs, depth, q, k, list);
         w.put_bytes(b" = ");
-        body.emit_source(w, context, q, k);
+        body.emit_source(w, refs, bound, depth, q, k);
     }
     w.put_bytes(b" {");
 }
@@ -46,25 +49,35 @@ pub fn one_arm_head(
 pub fn match_head(
     w: &mut Sink<'_>,
     body: &Body<'_>,
-    context: &mut BodyContext,
+    refs: &mut [bool],
+    bound: &[bool],
+    depth: usize,
     q: usize,
     k: Constraint,
 )
-    ensures { let b = body.now in WritesWords (HasDepth context.old q) b (match_head (body_told b) (set_of context.old.is_bound) q (constraint_told k)) w.old context.old w.new context.new }
+    ensures { let b = body.now in WritesWords (HasDepth depth q) b depth (match_head (body_told b) (set_of bound.now) q (constraint_told k)) w.old refs.old w.new refs.new }
 {
     w.put_bytes(b"match ");
-    body.emit_source(w, context, q, k);
+    body.emit_source(w, refs, bound, depth, q, k);
     w.put_bytes(b" {");
 }
 
 // codegen.rs 779
-pub fn equal_head(w: &mut Sink<'_>, body: &Body<'_>, context: &mut BodyContext, a: usize, b: usize)
-    ensures { let t = body.now in WritesWords (HasDepth context.old a × HasDepth context.old b) t (equal_head (body_told t) (set_of context.old.is_bound) a b) w.old context.old w.new context.new }
+pub fn equal_head(
+    w: &mut Sink<'_>,
+    body: &Body<'_>,
+    refs: &mut [bool],
+    bound: &[bool],
+    depth: usize,
+    a: usize,
+    b: usize,
+)
+    ensures { let t = body.now in WritesWords (HasDepth depth a × HasDepth depth b) t depth (equal_head (body_told t) (set_of bound.now) a b) w.old refs.old w.new refs.new }
 {
     w.put_bytes(b"if ");
-    body.emit_expr(w, context, a);
+    body.emit_expr(w, refs, bound, depth, a);
     w.put_bytes(b" == ");
-    body.emit_expr(w, context, b);
+    body.emit_expr(w, refs, bound, depth, b);
     w.put_bytes(b" {");
 }
 

@@ -1,63 +1,62 @@
 -- What a step and an arm give, kind by kind. Assumes nothing.
-use Rattle.std.specs.Prelude.{◌≡◌, refl, ℕ, ◌+◌, ◌*◌, ◌<◌, Bool, true, false, cond, List, [], ◌∷◌, get_or, eqb, leb, ltb}
+use Rattle.std.specs.Prelude.{◌≡◌, refl, ℕ, ◌+◌, ◌*◌, ◌<◌, Bool, true, false, cond, List, [], ◌∷◌, eqb, leb, ltb}
 use Rattle.std.proofs.Common.{sym, ap, ◌∙◌, eqb-true, leb-true, leb-false, arith}
-use lib.Seq.{get_or-drop}
 use Rattle.std.proofs.Math.Option.{Option, some, none}
 use Rattle.text.specs.Sink.{spaces}
 use Rattle.text.specs.Writes.{Writes}
 use Rattle.text.specs.declared.sink.Sink.{Sink}
 use Rattle.plan.specs.Constraint.{Constraint}
-use Rattle.plan.specs.Binding.{BindingRow}
-use Rattle.plan.specs.Lookup.{binding_at}
 use Rattle.plan.specs.Row.{Row, step, arm, Match}
 use Rattle.codegen.specs.Writer.{Marks, Writer, said}
 use Rattle.codegen.specs.Pattern.{bind_all}
 use Rattle.codegen.specs.Block as block
-use Rattle.codegen.specs.Block.{Purpose, one_arm, arms_of, Own, arm_count, one_arm_head, match_head, opening, nothing_written, loop_head, matching, emit_check}
+use Rattle.codegen.specs.Block.{Purpose, one_arm, arms_of, Own, Frame, arm_count, one_arm_head, match_head, opening, nothing_written, loop_head, matching, emit_check}
 use Rattle.codegen.specs.Piece.{odd_piece, odd_pieces}
-use Rattle.rows.specs.View.{nth, binding_of}
-use Rattle.view.specs.Buffers.{rows_of}
+use Rattle.rows.specs.View.{nth}
 use Rattle.view.specs.Told.{constraint_of}
 use Rattle.emits.specs.Marks.{set_of}
 use Rattle.emits.specs.Runs.{Emits}
-use Rattle.expr_parts.proofs.Laws.{binding_is}
-use Rattle.context.specs.declared.body_context.BodyContext.{BodyContext}
+use Rattle.context.specs.declared.body_context.Nesting.{Nesting}
 use Rattle.row_frames.specs.Arms.{arms_in}
 use Rattle.row_frames.specs.Rows.{rows_next}
 use Rattle.row_frames.specs.declared.Arms.TheVariants.{Absent, One, Several}
 use Rattle.row_frames.proofs.Laws.{arms_absent, arms_step}
 use Rattle.view.specs.BlockRows.{arm_is}
 use Rattle.body.specs.declared.Body.{Body}
-use Rattle.body.specs.Told.{env_in, bindings_of, row_in, pattern_in, rows_in, body_told, Fits}
+use Rattle.body.specs.Told.{env_in, row_in, pattern_in, rows_in, body_told, Fits, StandsAt, StandsIn}
 use Rattle.body.specs.Own.{WritesOwn}
 use Rattle.body.specs.Lines.{lines_none, lines_same, lines_words}
 
 -- WHAT A ROW WRITES, from what it is
 
-module _ {deep : Type 0} {b : Body} {w : Sink} {s : BodyContext} {opens : Option Purpose} {w' : Sink} {s' : BodyContext} where
-  pub own_same : {u v : Marks → Own} → ((x : Marks) → u x ≡ v x) → WritesOwn deep b v w s opens w' s' → WritesOwn deep b u w s opens w' s'
+module _ {deep : Type 0} {b : Body} {inside : List Frame → Type 0} {w : Sink} {refs : List Bool} {opens : Option Purpose} {w' : Sink} {refs' bound' : List Bool} where
+  pub own_same : {u v : Marks → Own} → ((x : Marks) → u x ≡ v x) → WritesOwn deep b inside v w refs opens w' refs' bound' → WritesOwn deep b inside u w refs opens w' refs' bound'
   own_same h p = record {
-    lines = λ d f i fs x. lines_same (sym (ap (λ (o : Own). o.lines) (h (set_of s.is_ref)))) (sym (ap (λ (o : Own). o.refs) (h (set_of s.is_ref)))) (p.lines d f i fs x);
+    lines = λ d f i fs x. lines_same (sym (ap (λ (o : Own). o.lines) (h (set_of refs)))) (sym (ap (λ (o : Own). o.refs) (h (set_of refs)))) (p.lines d f i fs x);
     frame = λ x. p.frame x ∙ sym (ap (λ (o : Own). o.frame) (h x));
     bound = λ x. p.bound x ∙ sym (ap (λ (o : Own). o.bound) (h x));
-    nesting = p.nesting;
   }
 
   -- lines that are not too deep here are not too deep there
-  pub own_deep : {deep' : Type 0} {u : Marks → Own} → (deep' → deep) → WritesOwn deep b u w s opens w' s' → WritesOwn deep' b u w s opens w' s'
-  own_deep h p = record { lines = λ d. p.lines (h d); frame = p.frame; bound = p.bound; nesting = p.nesting }
+  pub own_deep : {deep' : Type 0} {u : Marks → Own} → (deep' → deep) → WritesOwn deep b inside u w refs opens w' refs' bound' → WritesOwn deep' b inside u w refs opens w' refs' bound'
+  own_deep h p = record { lines = λ d. p.lines (h d); frame = p.frame; bound = p.bound }
 
-module _ {deep : Type 0} {b : Body} {w : Sink} {s : BodyContext} where
-  pub own_nothing : WritesOwn deep b (λ x. nothing_written x (set_of s.is_bound)) w s none w s
+-- a line of a nesting's depth is one of the nesting
+pub own_nested : {deep : Type 0} {b : Body} {n : Nesting} {u : Marks → Own} {w : Sink} {refs : List Bool} {opens : Option Purpose} {w' : Sink} {refs' bound' : List Bool}
+    → WritesOwn deep b (StandsAt n.depth) u w refs opens w' refs' bound' → WritesOwn deep b (StandsIn n) u w refs opens w' refs' bound'
+own_nested p = record { lines = λ d f i fs s. p.lines d f i fs s.depth; frame = p.frame; bound = p.bound }
+
+module _ {deep : Type 0} {b : Body} {w : Sink} {refs : List Bool} where
+  pub own_nothing : {inside : List Frame → Type 0} {bound : List Bool} → WritesOwn deep b inside (λ x. nothing_written x (set_of bound)) w refs none w refs bound
   unfolding nothing_written
-  own_nothing = record { lines = λ d f i fs x. lines_none; frame = λ x. refl; bound = λ x. refl; nesting = refl }
+  own_nothing = record { lines = λ d f i fs x. lines_none; frame = λ x. refl; bound = λ x. refl }
 
   -- a line that opens a frame: its indentation, its words, its end
-  pub own_opening : {w₁ w₂ w' : Sink} {s' : BodyContext} {p : Purpose} (l : Marks) {m : Marks} {v : Writer}
-      → Writes (spaces (4 * s.nesting.depth)) w w₁ → (deep → Fits b → Emits (env_in b) s.nesting.depth v w₁ (set_of s.is_ref) w₂ (set_of s'.is_ref)) → Writes (10 ∷ []) w₂ w'
-      → set_of s'.is_bound ≡ m → s'.nesting ≡ s.nesting → WritesOwn deep b (λ x. opening p l m (said v x)) w s (some p) w' s'
+  pub own_opening : {depth : ℕ} {w₁ w₂ w' : Sink} {refs' bound' : List Bool} {p : Purpose} (l : Marks) {m : Marks} {v : Writer}
+      → Writes (spaces (4 * depth)) w w₁ → (deep → Fits b → Emits (env_in b) depth v w₁ (set_of refs) w₂ (set_of refs')) → Writes (10 ∷ []) w₂ w'
+      → set_of bound' ≡ m → WritesOwn deep b (StandsAt depth) (λ x. opening p l m (said v x)) w refs (some p) w' refs' bound'
   unfolding opening
-  own_opening l {v = v} x y z h n = record { lines = λ d f i fs t. lines_words {v = v} t.depth x (y d f) z; frame = λ r. refl; bound = λ r. h; nesting = n }
+  own_opening l {v = v} x y z h = record { lines = λ d f i fs t. lines_words {v = v} t x (y d f) z; frame = λ r. refl; bound = λ r. h }
 
 -- A MATCH, by its arms
 
@@ -115,11 +114,11 @@ module _ (b : Body) (m : Marks) (l first last q : ℕ) where
   first_arm : (Absent ≡ arms_in l (rows_in b last first) → ⊥) → rows_in b last first ≡ arm (nth (row_in b first) 0) (constraint_of (row_in b first)) (pattern_in b first) ∷ rows_in b last (first + 1)
   first_arm h = by_place (leb last first) refl where
     by_kind : first < last → (t : Bool) → ltb (nth (row_in b first) 1) 4 ≡ t → rows_in b last first ≡ arm (nth (row_in b first) 0) (constraint_of (row_in b first)) (pattern_in b first) ∷ rows_in b last (first + 1)
-    by_kind g true s = absurd (h (arms_step b.plan.now.words.now b.plan.now.rows.now l first last g s))
-    by_kind g false s = rows_next b.plan.now.words.now b.plan.now.rows.now first last g ∙ ap (λ (x : Row). x ∷ rows_in b last (first + 1)) (arm_is (row_in b first) s)
+    by_kind g true s = absurd (h (arms_step b.bindings.plan.now.words.now b.bindings.plan.now.rows.now l first last g s))
+    by_kind g false s = rows_next b.bindings.plan.now.words.now b.bindings.plan.now.rows.now first last g ∙ ap (λ (x : Row). x ∷ rows_in b last (first + 1)) (arm_is (row_in b first) s)
 
     by_place : (t : Bool) → leb last first ≡ t → rows_in b last first ≡ arm (nth (row_in b first) 0) (constraint_of (row_in b first)) (pattern_in b first) ∷ rows_in b last (first + 1)
-    by_place true s = absurd (h (arms_absent b.plan.now.words.now b.plan.now.rows.now l first last (leb-true last first s)))
+    by_place true s = absurd (h (arms_absent b.bindings.plan.now.words.now b.bindings.plan.now.rows.now l first last (leb-true last first s)))
     by_place false s = by_kind (leb-false last first s) (ltb (nth (row_in b first) 1) 4) refl
 
   pub match_of_one : One ≡ arms_in l (rows_in b last first) → (x : Marks) → of_match x ≡ opening one_arm m (bind_all (pattern_in b first) m) (said (one_arm_head (body_told b) (bind_all (pattern_in b first) m) q (constraint_of (row_in b first)) (pattern_in b first)) x)
@@ -133,8 +132,3 @@ module _ (b : Body) (m : Marks) (l first last q : ℕ) where
 pub odd_loop : (r q : ℕ) → odd_pieces (loop_head r q) ≡ 0
 unfolding loop_head odd_pieces odd_piece
 odd_loop r q = refl
-
--- the iterator of result r, whose binding is in a row
-pub loop_source : (b : Body) (r row : ℕ) → row_in b row ≡ get_or (rows_of b.plan.now b.bindings) r [] → nth (row_in b row) 6 ≡ get_or (binding_at (bindings_of b) r).sources 0 0
-unfolding binding_of
-loop_source b r row h = sym (get_or-drop 6 (row_in b row) 0 0) ∙ ap (λ (x : BindingRow). get_or x.sources 0 0) (binding_is b.plan.now b.bindings r row h)

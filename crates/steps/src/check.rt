@@ -1,13 +1,14 @@
 // A step's own line: codegen.rs 740.
-ghost use Rattle.std.specs.Prelude.{List, ℕ, ◌+◌, ◌<◌, ◌≡◌};
+ghost use Rattle.std.specs.Prelude.{Bool, List, ℕ, ◌+◌, ◌<◌, ◌≡◌};
 ghost use Rattle.plan.specs.Row as row;
 ghost use Rattle.plan.specs.Row.{Row};
 ghost use Rattle.rows.specs.View.{nth};
 ghost use Rattle.view.specs.Buffers.{words_of};
 ghost use Rattle.view.specs.Told.{control_flow_told, control_flow_of};
+ghost use Rattle.emits.specs.Marks.{set_of};
 ghost use Rattle.row_frames.specs.Rows.{rows_from};
 ghost use Rattle.row_frames.specs.Told.{opens_told};
-ghost use Rattle.body.specs.Told.{row_in, rows_in};
+ghost use Rattle.body.specs.Told.{row_in, rows_in, StandsAt, StandsIn};
 ghost use Rattle.body.specs.Own.{WritesOwn};
 ghost use Rattle.body.specs.Words.{HasDepth};
 ghost use Rattle.steps.specs.Rows.{check_at};
@@ -15,28 +16,30 @@ ghost use Rattle.steps.specs.Small.{word_bound, SmallFlow};
 
 use super::matches::emit_match;
 use body::Body;
-use context::body_context::BodyContext;
+use context::body_context::Nesting;
 use emits::stablemapset::insert;
-use expr_parts::SOURCES;
 use returns::emit_return;
 use row_frames::Purpose;
 use step_parts::heads::{equal_head, loop_head};
 use text::sink::Sink;
 use view::block::ControlFlow;
 use view::buffers::Plan;
+use view::word_in;
 
 // codegen.rs 779
 fn emit_equal(
     w: &mut Sink<'_>,
     body: &Body<'_>,
-    context: &mut BodyContext,
+    refs: &mut [bool],
+    bound: &[bool],
+    depth: usize,
     a: usize,
     b: usize,
 ) -> Option<Purpose>
-    ensures { (l : ℕ) (rs : List Row) → WritesOwn (HasDepth context.old a × HasDepth context.old b) body.now (check_at body.now context.old l (row.Equal a b) rs) w.old context.old (opens_told result) w.new context.new }
+    ensures { (l : ℕ) (rs : List Row) → WritesOwn (HasDepth depth a × HasDepth depth b) body.now (StandsAt depth) (check_at body.now (set_of bound.now) l (row.Equal a b) rs) w.old refs.old (opens_told result) w.new refs.new bound.now }
 {
-    w.put_indent(context.nesting.depth);
-    equal_head(w, body, context, a, b);
+    w.put_indent(depth);
+    equal_head(w, body, refs, bound, depth, a, b);
     w.put_byte(b'\n');
     Some(Purpose::Body)
 }
@@ -45,26 +48,26 @@ fn emit_equal(
 fn emit_loop(
     w: &mut Sink<'_>,
     body: &Body<'_>,
-    context: &mut BodyContext,
+    bound: &mut [bool],
+    depth: usize,
     r: usize,
 ) -> Option<Purpose>
-    ensures { (l : ℕ) (rs : List Row) → WritesOwn (Unit {0}) body.now (check_at body.now context.old l (row.Loop r) rs) w.old context.old (opens_told result) w.new context.new }
+    ensures { (refs : List Bool) (l : ℕ) (rs : List Row) → WritesOwn (Unit {0}) body.now (StandsAt depth) (check_at body.now (set_of bound.old) l (row.Loop r) rs) w.old refs (opens_told result) w.new refs bound.new }
 {
-    let row = body.plan.row_at(body.bindings, r);
-    let q = body.plan.word(row, SOURCES);
-    insert(&mut context.is_bound, r);
-    w.put_indent(context.nesting.depth);
-    loop_head(w, context.nesting.depth, r, q);
+    let q = word_in(body.bindings.sources(r), 0) as usize;
+    insert(bound, r);
+    w.put_indent(depth);
+    loop_head(w, depth, r, q);
     w.put_byte(b'\n');
     Some(Purpose::Body)
 }
 
-// The row after row r; where r is not before row `last`, no row stands from it on.
+// The row after row r, or row `last` where r is not before it: no row stands from either on.
 #[tactic(auto, using(row_frames::specs::Rows::rows_none))]
 fn after(r: usize, last: usize) -> usize
     ensures { (words rows : List ℕ) → rows_from words rows last result ≡ rows_from words rows last (r + 1) }
 {
-    if r < last { r + 1 } else { last }
+    r.saturating_add(1).min(last)
 }
 
 // Each word is a number of 32 bits, which the check knows of a slice that is read.
@@ -87,21 +90,34 @@ fn control_flow_at(plan: &Plan<'_>, r: usize) -> ControlFlow
 pub fn emit_check(
     w: &mut Sink<'_>,
     body: &Body<'_>,
-    context: &mut BodyContext,
+    refs: &mut [bool],
+    bound: &mut [bool],
+    nesting: Nesting,
     r: usize,
     last: usize,
 ) -> Option<Purpose>
-    ensures { let b = body.now in WritesOwn (context.old.nesting.depth < 4294967296) b (check_at b context.old (nth (row_in b r) 0) (control_flow_of (row_in b r)) (rows_in b last (r + 1))) w.old context.old (opens_told result) w.new context.new }
+    ensures { let b = body.now in WritesOwn (nesting.depth < 4294967296) b (StandsIn nesting) (check_at b (set_of bound.old) (nth (row_in b r) 0) (control_flow_of (row_in b r)) (rows_in b last (r + 1))) w.old refs.old (opens_told result) w.new refs.new bound.new }
 {
-    match control_flow_at(body.plan, r) {
+    let depth = nesting.depth;
+    match control_flow_at(body.bindings.plan, r) {
         ControlFlow::Match { source } => {
-            let level = body.plan.word(r, 0);
-            emit_match(w, body, context, level, after(r, last), last, source)
+            let level = body.bindings.plan.word(r, 0);
+            emit_match(
+                w,
+                body,
+                refs,
+                bound,
+                depth,
+                level,
+                after(r, last),
+                last,
+                source,
+            )
         }
-        ControlFlow::Equal { a, b } => emit_equal(w, body, context, a, b),
-        ControlFlow::Loop { result } => emit_loop(w, body, context, result),
+        ControlFlow::Equal { a, b } => emit_equal(w, body, refs, bound, depth, a, b),
+        ControlFlow::Loop { result } => emit_loop(w, body, bound, depth, result),
         ControlFlow::Return { result, pos } => {
-            emit_return(w, body, context, result, pos);
+            emit_return(w, body, refs, bound, nesting, result, pos);
             None
         }
     }

@@ -5,6 +5,7 @@ use Rattle.std.proofs.lemmas.List.{take-append-drop, take-replicate}
 use Rattle.std.proofs.lemmas.List.Edits.{sets, sets-eq}
 use Rattle.std.proofs.lemmas.Slice.{put_mid-paste}
 use borrow.Rule.Slice.PartMut.{put_mid}
+use borrow.Rule.Slice.Mut.{set_vals}
 use Rattle.text.specs.Sink.{spaces}
 use Rattle.text.specs.Writes.{Writes, writes_nil, writes_over}
 use Rattle.text.specs.declared.sink.Sink.{Sink}
@@ -38,12 +39,12 @@ pub taken_spaces : (n k m : ℕ) → m ≡ k → k ≤ n → replicate m 32 ≡ 
 unfolding spaces
 taken_spaces n k m q h = rw (q, take-replicate {X = ℕ} k n 32 h)
 
--- a text of n bytes that has room, and one that has not
-pub writes_stored : {t : List ℕ} {n : ℕ} {w w' : Sink} → length t ≡ n → ltb (w.at + n) w.end ≡ true → w'.out.ghost_name ≡ w.out.ghost_name → w'.end ≡ w.end → w'.odd ≡ w.odd → w'.out.now ≡ sets w.out.now w.at t → w'.at ≡ w.at + n → Writes t w w'
-writes_stored {t} {n} {w} l h a b c d e = let r : w.at + n < w.end = ltb-true (w.at + n) w.end h in record { buffer = a; end = b; odd = c; puts = puts_held (omega arith) d (rw l e) }
+-- a text of n bytes that has room, and one that has not; w₁ is the sink that went n bytes on
+pub writes_stored : {t : List ℕ} {n at : ℕ} {w w₁ : Sink} {o : List ℕ} → (at ≡ w.at) × (w.at + n < w.end) × (w₁.at ≡ w.at + n) → length t ≡ n → (w₁.out ≡ w.out) × (w₁.end ≡ w.end) × (w₁.odd ≡ w.odd) → o ≡ sets w₁.out.now at t → Writes t w (record { out = set_vals o w₁.out; at = w₁.at; end = w₁.end; odd = w₁.odd })
+writes_stored {t} {n} {at} {w} {w₁} a l s d = rw (s.0, s.1, s.2, a.2) (record { buffer = refl; end = refl; odd = refl; puts = puts_held (omega (arith, a.1)) (rw (s.0, a.0) at d) (rw l refl) })
 
-pub writes_past : {t : List ℕ} {n : ℕ} {w : Sink} → length t ≡ n → ltb (w.at + n) w.end ≡ false → Writes t w (record { out = w.out; at = w.end; end = w.end; odd = w.odd })
-writes_past {t} {n} {w} l h = writes_over (omega (arith, ltb-false (w.at + n) w.end h))
+pub writes_past : {t : List ℕ} {n : ℕ} {w w₁ : Sink} → length t ≡ n → (w.end ≤ w.at + n) × (w₁.at ≡ w.end) → (w₁.out ≡ w.out) × (w₁.end ≡ w.end) × (w₁.odd ≡ w.odd) → Writes t w w₁
+writes_past {t} {n} {w} {w₁} l a s = rw (s.0, s.1, s.2, a.1) (writes_over (omega (arith, a.0)))
 
 -- a part of a text, up to its end
 part_least : (first last n : ℕ) (t : List ℕ) → n ≡ min last (length t) → take (n - first) (drop first t) ≡ take (last - first) (drop first t)
@@ -58,9 +59,6 @@ part_least first last n t q = go (ltb (length t) last) refl
         let i : n ≡ last = omega arith in
         rw i
 
--- a part of a text, put up to where the text ends; and one that ends where it begins, or before
-pub writes_part : (first last : ℕ) {n : ℕ} (t : List ℕ) {w w' : Sink} → n ≡ min last (length t) → Writes (take (n - first) (drop first t)) w w' → Writes (take (last - first) (drop first t)) w w'
-writes_part first last {n} t q p = rw (← part_least first last n t q) p
-
-pub writes_no_part : (first last : ℕ) {n : ℕ} (t : List ℕ) {w : Sink} → n ≡ min last (length t) → n ≤ first → Writes (take (last - first) (drop first t)) w w
-writes_no_part first last {n} t q h = let z : n - first ≡ 0 = omega arith in rw (← part_least first last n t q, z) writes_nil
+-- a part of a text that ends where it begins, or before
+pub writes_no_part : (first last : ℕ) (t : List ℕ) {w : Sink} → min last (length t) ≤ first → Writes (take (last - first) (drop first t)) w w
+writes_no_part first last t h = let z : min last (length t) - first ≡ 0 = omega arith in rw (← part_least first last _ t refl, z) writes_nil

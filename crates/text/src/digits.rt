@@ -1,5 +1,6 @@
 // The digits of numbers, as Rust's `{}` and `{:x}` write them: filled into an array from its end, the last one first, and put as one text.
-// A loop keeps the place of the next one in a local: as a field, which a byte that is stored might change, it cost a tenth more.
+// A loop keeps the place of the next one in a local: as a field, which a byte that is stored might change, it cost a tenth more. So did a `for`
+// over the places in reverse (`(first - K..first).rev()`); after an adapter of `iter_mut`, as its `rev`, nothing is known of the bytes.
 ghost use Rattle.std.specs.Prelude.{◌≡◌, [], suc, ◌-◌, ◌/◌, ◌^◌, ◌≤◌, ◌<◌, ◌++◌, length};
 ghost use Rattle.text.specs.Digits.{digits, digit, decimal};
 ghost use Rattle.text.specs.DigitsLaws.{padded};
@@ -8,10 +9,7 @@ fn from_digit(d: u64) -> u8
     requires { d < 16 }
     ensures { result ≡ digit d }
 {
-    match d {
-        0..=9 => b'0' + d as u8,
-        _ => b'a' + (d - 10) as u8,
-    }
+    b"0123456789abcdef"[d as usize]
 }
 
 // An array whose bytes from `first` on are digits. No number of 128 bits has more than 39 of them.
@@ -76,7 +74,7 @@ impl Digits {
         self.first = place;
     }
 
-    // The decimal digits of n, likewise: four of them in a step, as long as there are more.
+    // The decimal digits of n, likewise, and no `for` either: four of them in a step, as long as there are more.
     pub(super) fn fill_decimal(&mut self, n: u64)
         requires { (1 ≤ self.old.first) × (n < 10 ^ self.old.first) }
         ensures { filled self.new ≡ decimal n ++ filled self.old }

@@ -7,11 +7,20 @@ ghost use Rattle.text.specs.Wide.{whole, Grouped};
 use super::digits::Digits;
 use super::sink::Sink;
 
-// A number of 128 bits in two halves.
+// A number of 128 bits in two halves: the form that document 01 gives Rust's i128, and so no u128.
 #[derive(Clone, Copy, PartialEq, Eq)]
 pub struct Wide {
     pub high: u64,
     pub low: u64,
+}
+
+// A number of 64 bits.
+impl From<u64> for Wide {
+    ghost from_gives = { λ n wide. whole wide ≡ n };
+
+    fn from(n: u64) -> Wide {
+        Wide { high: 0, low: n }
+    }
 }
 
 // A number of 128 bits in groups of eight decimal digits, the last one in `low`.
@@ -86,10 +95,10 @@ impl Sink<'_> {
         let mut digits = Digits::new();
         if n.high == 0 {
             digits.fill_digits::<16>(n.low);
-            return self.put_bytes(digits.as_bytes());
+        } else {
+            digits.fill_padded::<16, 16>(n.low);
+            digits.fill_digits::<16>(n.high);
         }
-        digits.fill_padded::<16, 16>(n.low);
-        digits.fill_digits::<16>(n.high);
         self.put_bytes(digits.as_bytes());
     }
 
@@ -105,10 +114,10 @@ impl Sink<'_> {
         digits.fill_padded::<10, 8>(g.middle);
         if g.top == 0 {
             digits.fill_decimal(g.high);
-            return self.put_bytes(digits.as_bytes());
+        } else {
+            digits.fill_padded::<10, 8>(g.high);
+            digits.fill_decimal(g.top);
         }
-        digits.fill_padded::<10, 8>(g.high);
-        digits.fill_decimal(g.top);
         self.put_bytes(digits.as_bytes());
     }
 

@@ -1,12 +1,12 @@
 // The byte sink: a text is put into a lent buffer, from its start on. `end` is one more than the room; specs/Writes.antt says what it is
 // that a text is put. Nothing is asked of a caller: any position, any room, any buffer. To measure a text, put it into a buffer of one byte.
-ghost use Rattle.std.specs.Prelude.{◌≡◌, [], ◌∷◌, ◌+◌, ◌-◌, ◌*◌, ltb, take, drop};
+ghost use Rattle.std.specs.Prelude.{◌≡◌, [], ◌∷◌, ◌+◌, ◌-◌, ◌*◌, ◌≤◌, ◌<◌, take, drop, IfSome, IfNone};
 ghost use Rattle.std.proofs.lemmas.List.Edits.{sets};
 ghost use Rattle.text.specs.Sink.{spaces};
 ghost use Rattle.text.specs.Writes.{Writes};
 
-// The bytes that have a place in a buffer are stored from a position on. These are functions of a buffer, not of a sink: of a loop over a
-// field of a lent value nothing plain is known.
+// The bytes that have a place in a buffer are stored from a position on. These are functions of a buffer, not of a sink: their contracts and
+// the invariant of the loop speak of the buffer alone.
 
 fn store_byte(out: &mut [u8], at: usize, byte: u8)
     ensures { out.new ≡ sets out.old at (byte ∷ []) }
@@ -16,15 +16,18 @@ fn store_byte(out: &mut [u8], at: usize, byte: u8)
     }
 }
 
-// Most texts are a few bytes long: `copy_from_slice` took 2.7 times as long for a line of six of them.
+// Most texts are a few bytes long: `copy_from_slice` took 2.7 times as long for a line of six of them. The bytes of `out` go by index: after an
+// adapter of `iter_mut` (`zip`) nothing is known of them.
 fn store(out: &mut [u8], at: usize, src: &[u8])
     ensures { out.new ≡ sets out.old at src.now }
 {
-    for i in 0..src.len().min(out.len().saturating_sub(at)) {
-        out[at + i] = src[i];
+    let n = src.len().min(out.len().saturating_sub(at));
+    for (i, byte) in src[..n].iter().enumerate() {
+        out[at + i] = *byte;
     }
 }
 
+#[tactic(auto, using(crate::proofs::Copies::part_stored, crate::proofs::Copies::taken_spaces, crate::specs::SinkLaws::length_spaces))]
 fn store_spaces(out: &mut [u8], at: usize, n: usize)
     ensures { out.new ≡ sets out.old at (spaces n) }
 {
@@ -59,36 +62,41 @@ impl<'a> Sink<'a> {
         }
     }
 
-    // Is there room for n bytes more?
-    fn has_room(&self, n: usize) -> bool
-        ensures { result ≡ ltb (self.now.at + n) self.now.end }
+    // Goes n bytes on and answers where they begin; where there is no room for them, goes past the room.
+    fn advance(&mut self, n: usize) -> Option<usize>
+        ensures begins { IfSome result (λ at. (at ≡ self.old.at) × (self.old.at + n < self.old.end) × (self.new.at ≡ self.old.at + n)) }
+        ensures past { IfNone result ((self.old.end ≤ self.old.at + n) × (self.new.at ≡ self.old.end)) }
+        ensures same { (self.new.out ≡ self.old.out) × (self.new.end ≡ self.old.end) × (self.new.odd ≡ self.old.odd) }
     {
-        n < self.end.saturating_sub(self.at)
+        let at = self.at;
+        if n < self.end.saturating_sub(at) {
+            self.at = at + n;
+            return Some(at);
+        }
+        self.at = self.end;
+        None
     }
 
+    #[tactic(auto, using(crate::proofs::Copies::writes_stored, crate::proofs::Copies::writes_past))]
     pub fn put_byte(&mut self, byte: u8)
         ensures { Writes (byte ∷ []) self.old self.new }
     {
-        if self.has_room(1) {
-            store_byte(self.out, self.at, byte);
-            self.at += 1;
-        } else {
-            self.at = self.end;
+        if let Some(at) = self.advance(1) {
+            store_byte(self.out, at, byte);
         }
     }
 
+    #[tactic(auto, using(crate::proofs::Copies::writes_stored, crate::proofs::Copies::writes_past))]
     pub fn put_bytes(&mut self, src: &[u8])
         ensures { Writes src.now self.old self.new }
     {
-        if self.has_room(src.len()) {
-            store(self.out, self.at, src);
-            self.at += src.len();
-        } else {
-            self.at = self.end;
+        if let Some(at) = self.advance(src.len()) {
+            store(self.out, at, src);
         }
     }
 
     // The bytes of text from first up to last: those that there are.
+    #[tactic(auto, using(crate::proofs::Copies::writes_no_part))]
     pub fn put_part(&mut self, text: &[u8], first: usize, last: usize)
         ensures { Writes (take (last - first) (drop first text.now)) self.old self.new }
     {
@@ -98,18 +106,18 @@ impl<'a> Sink<'a> {
         }
     }
 
+    #[tactic(auto, using(crate::proofs::Copies::writes_stored, crate::proofs::Copies::writes_past, crate::specs::SinkLaws::length_spaces))]
     pub fn put_spaces(&mut self, n: usize)
         ensures { Writes (spaces n) self.old self.new }
     {
-        if self.has_room(n) {
-            store_spaces(self.out, self.at, n);
-            self.at += n;
-        } else {
-            self.at = self.end;
+        if let Some(at) = self.advance(n) {
+            store_spaces(self.out, at, n);
         }
     }
 
-    // Four spaces for each level of depth. As many as no number counts have no room in any buffer.
+    // Four spaces for each level of depth. As many as no number counts have no room in any buffer. `saturating_mul` was tried: that `end`
+    // is a number of 64 bits, by which so many spaces have no room, is not known where it is not read.
+    #[tactic(auto, using(crate::specs::Writes::writes_over, crate::specs::SinkLaws::length_spaces))]
     pub fn put_indent(&mut self, depth: usize)
         ensures { Writes (spaces (4 * depth)) self.old self.new }
     {

@@ -28,33 +28,29 @@ pub enum WideCell {
     Narrow(Cell),
 }
 
+#[tactic(auto, unfolding(crate::specs::Value::cell, plan::specs::Layout::unused, tokens::specs::Token::told))]
 fn read_unused(t: &[u8]) -> Option<u32>
     ensures { result ≡ told (cell 0 t.now) }
 {
-    if tokens::equal(t, b"-") {
-        return Some(0);
-    }
-    None
+    tokens::equal(t, b"-").then_some(0)
 }
 
+// Comparisons one after the other, here and below: a `match` on byte strings does not prove (`rows::kinds`).
 fn read_bit(t: &[u8]) -> Option<u32>
     ensures { result ≡ told (some flag ⊛ bit t.now) }
 {
     if tokens::equal(t, b"0") {
         return Some(0);
     }
-    if tokens::equal(t, b"1") {
-        return Some(1);
-    }
-    None
+    tokens::equal(t, b"1").then_some(1)
 }
 
 // A number that is not above the most.
+#[tactic(auto, using(crate::proofs::Laws::told_none, crate::proofs::Laws::told_some), unfolding(plan::specs::Layout::number_to, plan::specs::Layout::only, tokens::specs::Token::told))]
 fn read_number_to(most: u32, t: &[u8]) -> Option<u32>
     ensures { result ≡ told (number_to most t.now) }
 {
-    let n = tokens::read_number(t)?;
-    if n <= most { Some(n) } else { None }
+    tokens::read_number(t).filter(|n| *n <= most)
 }
 
 // A constructor or an extractor.
@@ -71,6 +67,7 @@ fn read_function_kind(t: &[u8]) -> Option<u32>
     Some(n + 2)
 }
 
+#[tactic(auto, unfolding(crate::specs::Value::threshold, tokens::specs::Token::told))]
 fn read_threshold(t: &[u8]) -> Option<u32>
     ensures { result ≡ told (threshold t.now) }
 {
@@ -135,7 +132,8 @@ impl<'a> Words<'a> {
         self.push(n)
     }
 
-    // Writes eight digits of an integer.
+    // Writes eight digits of an integer. No array of eight, which `read_hex` of at most eight could not ask for, and which each part of the
+    // text would be made into first.
     #[tactic(auto, using(crate::proofs::Laws::writes_none, crate::proofs::Laws::word_none, crate::proofs::Laws::word_some))]
     fn push_hex(&mut self, t: &[u8]) -> Option<()>
         requires { length t.now ≤ 8 }

@@ -1,5 +1,5 @@
 -- What the words of a row say, by its kind. Assumes nothing.
-use Prim.Native.Nat.{ℕ, zero, suc, ◌+◌, ◌-◌, ◌*◌}
+use Prim.Native.Nat.{ℕ, zero, suc, ◌+◌, ◌-◌, ◌*◌, min}
 use mathlib.Core.Path.{◌≡◌, refl, sym, ap, ◌∙◌}
 use mathlib.Core.Bool.{Bool, true, false, cond}
 use mathlib.Core.List.{List}
@@ -33,13 +33,16 @@ halves a b c d = omega arith
 
 -- SHAPES
 
-pub fields_made : (s : Shape) (n : ℕ) → s ≡ shape_kind n → (ws : List ℕ) → fields_told s ws ≡ shape_of n ws
+fields_made : (s : Shape) (n : ℕ) → s ≡ shape_kind n → (ws : List ℕ) → fields_told s ws ≡ shape_of n ws
 unfolding shape_of
 fields_made s n e ws = rw e (by_tests (eqb n 0) (eqb n 1)) where
   by_tests : (a b : Bool) → fields_told (cond a kind.Unit (cond b kind.Named kind.Tuple)) ws ≡ cond a unit (cond b (named (fields_in ws)) (tuple ws))
   by_tests true b = refl
   by_tests false true = refl
   by_tests false false = refl
+
+pub shape_capped : (s : Shape) (n : ℕ) → s ≡ shape_kind (min n 2) → (ws : List ℕ) → fields_told s ws ≡ shape_of n ws
+shape_capped s n e = fields_made s n (e ∙ grind arith)
 
 pub fields_numbered : (s : Shape) (ws : List ℕ) → shape_of (shape_number s) ws ≡ fields_told s ws
 unfolding shape_of

@@ -6,7 +6,6 @@ use mathlib.Core.Bool.{Bool, true, false}
 use mathlib.Core.List.{List, [], ◌∷◌, ◌++◌, map}
 use native.Mathlib.Omega.{arith}
 use lib.Dec.{ltb}
-use Rattle.std.specs.Prelude.{Some}
 use lib.ListN.{length, drop, get_or, length-map, length-append, get_or-map, get_or-append, get_or-eq_default}
 use lib.Seq.{get_or-append-add}
 use borrow.Author.Tests.{lt-ltb, ltb-true, ltb-false}
@@ -15,12 +14,13 @@ use Rattle.literal.specs.declared.builtin_type.BuiltinType.{BuiltinType}
 use Rattle.literal.specs.declared.builtin_type.BuiltinType.TheVariants as builtin
 use Rattle.plan.specs.Plan.{Builtin}
 use Rattle.plan.specs.Layout.{builtins}
-use Rattle.plan.specs.Lookup.{type_at, term_at}
-use Rattle.rows.specs.View.{nth, flagged, type_of, variant_of, term_of, function_of}
+use Rattle.plan.specs.Lookup.{type_at, term_at, binding_at}
+use Rattle.plan.specs.Refusal.{type_exists}
+use Rattle.rows.specs.View.{nth, flagged, type_of, variant_of, term_of, function_of, binding_of, binding_made}
 use Rattle.layout.specs.Scan.{Tables}
 use Rattle.layout.specs.View.{cut, text_of, environment_of, generated_of, plan_of_tables}
 use Rattle.view.specs.Tables.{table_rows, tables_from, tables_in, environment_in, plan_in, generated_at, generated_from}
-use Rattle.view.specs.Buffers.{words_of, rows_of, env_of, Undeclared, IfDeclared}
+use Rattle.view.specs.Buffers.{words_of, rows_of, env_of, Undeclared}
 use Rattle.view.specs.declared.buffers.Plan.{Plan}
 use Rattle.view.proofs.Laws.{past, cuts_none, table_at, table_past, table_length, tables_at, tables_length}
 
@@ -158,12 +158,22 @@ module _ (p : Plan) where
   pub type_past : (n : ℕ) → 13 ≤ n → length (rows_of p 4) ≤ n - 13 → Undeclared (env_of p) n
   type_past n h g = inr (omega (arith, types_count p.words.now p.rows.now p.tables.now p.bytes.now))
 
-  pub type_there : (n i r : ℕ) → 13 ≤ n → i ≡ n - 13 → i < length (rows_of p 4) → words_of p r ≡ get_or (rows_of p 4) i [] → IfDeclared p n (Some r)
-  type_there n i r h e g q = (
-    lt-ltb n (length (env_of p).types) (omega (arith, types_count p.words.now p.rows.now p.tables.now p.bytes.now)),
-    type_is p.words.now p.rows.now p.tables.now p.bytes.now n h (rw e at g) ∙ ap type_of (sym (rw e at q)),
-  )
+  pub type_there : (n i : ℕ) → 13 ≤ n → i ≡ n - 13 → i < length (rows_of p 4) → type_exists (env_of p) n ≡ true
+  type_there n i h e g = lt-ltb n (length (env_of p).types) (omega (arith, types_count p.words.now p.rows.now p.tables.now p.bytes.now))
+
+  pub type_said : (n i r : ℕ) → 13 ≤ n → i ≡ n - 13 → i < length (rows_of p 4) → words_of p r ≡ get_or (rows_of p 4) i [] → type_at (env_of p) n ≡ type_of (words_of p r)
+  type_said n i r h e g q = type_is p.words.now p.rows.now p.tables.now p.bytes.now n h (rw e at g) ∙ ap type_of (sym (rw e at q))
 
   pub multi_is : (m r : ℕ) → words_of p r ≡ get_or (rows_of p 6) m [] → flagged (nth (words_of p r) 3) ≡ (term_at (env_of p) m).multi
   unfolding term_of
   multi_is m r q = rw (term_is p.words.now p.rows.now p.tables.now p.bytes.now m, q)
+
+-- THE BINDINGS OF A TABLE
+
+pub binding_is : (t : List (List ℕ)) (n : ℕ) → binding_at (map binding_of t) n ≡ binding_of (get_or t n [])
+unfolding binding_of binding_made
+binding_is t n = get_or-map binding_of t n []
+
+pub sources_are : (t : List (List ℕ)) (n : ℕ) (ws : List ℕ) → ws ≡ get_or t n [] → drop 6 ws ≡ (binding_at (map binding_of t) n).sources
+unfolding binding_of
+sources_are t n ws e = rw (binding_is t n, e)

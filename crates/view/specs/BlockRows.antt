@@ -1,7 +1,10 @@
--- A row of a block, by its words. Assumes nothing.
+-- A row of a block, by its words, and a word of a pattern's list. Assumes nothing.
 use Rattle.std.specs.Prelude.{ℕ, ◌-◌, ◌≡◌, refl, Bool, true, false, cond, List, ltb, drop}
+use Rattle.std.proofs.Common.{eq-eqb, ne_eqb}
+use Rattle.std.proofs.Math.Option.{none, some}
 use Rattle.plan.specs.Row.{Row, step, arm, level}
-use Rattle.rows.specs.View.{nth, wide_at, step_made, arm_made, patterns_in, block_of}
+use Rattle.lists.specs.Items.{unbound}
+use Rattle.rows.specs.View.{nth, wide_at, step_made, arm_made, pattern_of, patterns_in, block_of}
 use Rattle.view.specs.Told.{control_flow_of, constraint_of}
 
 abbrev of_test : (ws : List ℕ) (b : Bool) → Row
@@ -21,3 +24,9 @@ step_is ws h = rw h refl
 pub arm_is : (ws : List ℕ) → ltb (nth ws 1) 4 ≡ false → block_of ws ≡ arm (nth ws 0) (constraint_of ws) (patterns_in (drop 7 ws))
 unfolding block_of
 arm_is ws h = rw h refl
+
+pub pattern_none : (b : ℕ) → b ≡ unbound → pattern_of b ≡ none
+pattern_none b h = rw (eq-eqb b unbound h)
+
+pub pattern_some : (b : ℕ) → (b ≡ unbound → ⊥) → pattern_of b ≡ some b
+pattern_some b h = rw (ne_eqb b unbound h)

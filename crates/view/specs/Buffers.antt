@@ -9,7 +9,7 @@ use Rattle.plan.specs.Lookup.{type_at}
 use Rattle.plan.specs.Refusal.{type_exists}
 use Rattle.rows.specs.View.{binding_of, type_of}
 use Rattle.layout.specs.View.{cut}
-use Rattle.view.specs.Tables.{table_rows, environment_in, plan_in, generated_at}
+use Rattle.view.specs.Tables.{table_rows, environment_in, plan_in}
 use Rattle.view.specs.declared.buffers.Plan.{Plan}
 
 -- the words of row r
@@ -30,10 +30,6 @@ variants_in p n = cut p.index.now p.index.now n
 
 abbrev pub env_of : Plan → plan.Environment
 env_of p = environment_in p.bytes.now p.words.now p.rows.now p.tables.now
-
--- the generated term whose tables are t, t + 1 and t + 2
-abbrev pub generated_in : Plan → ℕ → plan.Generated
-generated_in p t = generated_at p.words.now p.rows.now p.tables.now t
 
 abbrev pub plan_of : Plan → plan.Plan
 plan_of p = plan_in p.bytes.now p.words.now p.rows.now p.tables.now

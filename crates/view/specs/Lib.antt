@@ -2,4 +2,5 @@ pub mod Tables
 pub mod Told
 pub mod BlockRows
 pub mod Buffers
+pub mod Bytes
 pub mod Kinds

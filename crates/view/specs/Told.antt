@@ -1,5 +1,7 @@
 -- What the declared types say in the definition's terms. Assumes nothing: these are definitions.
-use Rattle.std.specs.Prelude.{ℕ, ◌-◌, List}
+use Rattle.std.specs.Prelude as code
+use Rattle.std.specs.Prelude.{ℕ, ◌-◌, List, Some, None}
+use Rattle.std.proofs.Math.Option.{Option, some, none}
 use Rattle.text.specs.Wide.{whole}
 use Rattle.plan.specs.Plan as plan
 use Rattle.plan.specs.Binding as binding
@@ -58,6 +60,11 @@ control_flow_of ws = step_made (nth ws 1) (nth ws 2) (wide_at ws 3)
 
 abbrev pub constraint_of : List ℕ → constraint.Constraint
 constraint_of ws = arm_made (nth ws 1 - 4) (nth ws 2) (wide_at ws 3)
+
+-- a binding of a pattern, or `_`
+abbrev pub pattern_told : code.Option ℕ → Option ℕ
+pattern_told None = none
+pattern_told (Some b) = some b
 
 abbrev pub function_told : FunctionKind → plan.FunctionKind
 function_told k.Absent = plan.absent

@@ -10,6 +10,7 @@ use super::{list_in, word_in};
 use rows::kinds::BindingKind;
 use text::number::Wide;
 
+// `rows::kinds::BindingKind` is the kind alone, which is read before the values; a `Binding` is what it says with them.
 #[derive(Clone, Copy)]
 pub enum Binding {
     ConstBool { val: bool },
@@ -29,10 +30,17 @@ pub enum Binding {
 }
 
 // Two words, the low one first: the buffers have words of 32 bits.
-fn half(low: u32, high: u32) -> u64
+pub fn half(low: u32, high: u32) -> u64
     ensures { result ≡ low + 4294967296 * high }
 {
     u64::from(low) + 4294967296 * u64::from(high)
+}
+
+// The same of two words of a row.
+pub fn half_in(row: &[u32], low: usize, high: usize) -> u64
+    ensures { result ≡ nth row.now low + 4294967296 * nth row.now high }
+{
+    half(word_in(row, low), word_in(row, high))
 }
 
 // The integer of a row's four words from the word i on.
@@ -42,8 +50,8 @@ pub(crate) fn wide_in(row: &[u32], i: usize) -> Wide
 {
     let words = list_in(row, i);
     Wide {
-        high: half(word_in(words, 2), word_in(words, 3)),
-        low: half(word_in(words, 0), word_in(words, 1)),
+        high: half_in(words, 2, 3),
+        low: half_in(words, 0, 1),
     }
 }
 

@@ -1,10 +1,12 @@
 // The rows of a block: `ControlFlow` of serialize.rs 78, `Constraint` of trie_again.rs 171.
 ghost use Rattle.std.specs.Prelude.{◌≡◌};
+ghost use Rattle.rows.specs.View.{pattern_of};
 ghost use Rattle.view.specs.Kinds.{step_by, arm_by};
-ghost use Rattle.view.specs.Told.{constraint_told, constraint_of, control_flow_told, control_flow_of};
+ghost use Rattle.view.specs.Told.{constraint_told, constraint_of, control_flow_told, control_flow_of, pattern_told};
 
 use super::binding::wide_in;
 use super::word_in;
+use lists::UNBOUND;
 use rows::kinds::BlockKind;
 use text::number::Wide;
 
@@ -80,7 +82,7 @@ impl Constraint {
     }
 }
 
-// What an arm's words ask.
+// What an arm's words ask. It looks like the conversion to `TypeData`, and each is one line over that of another type.
 impl From<&[u32]> for Constraint {
     ghost from_gives = { λ row arm. constraint_told arm ≡ constraint_of row.now };
 
@@ -88,4 +90,12 @@ impl From<&[u32]> for Constraint {
     fn from(row: &[u32]) -> Constraint {
         Constraint::of_kind(BlockKind::from(word_in(row, 1)), row)
     }
+}
+
+// The binding that a word of a pattern's list stands for, or none for `_`.
+#[tactic(auto, using(crate::specs::BlockRows::pattern_none, crate::specs::BlockRows::pattern_some))]
+pub fn pattern_of(word: u32) -> Option<usize>
+    ensures { pattern_told result ≡ pattern_of word }
+{
+    (word != UNBOUND).then_some(word as usize)
 }

@@ -1,4 +1,4 @@
-// A plan in the reader's buffers, with accessors: `Plan` of the definitions is what they hold (specs/Held.antt).
+// A plan in the reader's buffers, with accessors: `Plan` of the definitions is what they hold (specs/Buffers.antt).
 // Nothing is asked of the buffers: what is not there reads as 0.
 ghost use Rattle.std.specs.Prelude.{◌≡◌, ℕ, ◌+◌, ◌<◌, eqb, ltb, List, [], length, get_or, drop};
 ghost use Rattle.plan.specs.Lookup.{type_at, term_at, fields_of, field_count};
@@ -12,13 +12,16 @@ ghost use Rattle.view.specs.Tables.{table_rows};
 use super::binding::Binding;
 use super::block::{Constraint, ControlFlow};
 use super::environment::{FunctionKind, Term, TypeData, Variant};
+use super::heads::{TYPE_HEAD, VARIANT_HEAD};
 use super::tables::{TERMS, TYPES};
 use super::{bound, list_in, next_bound, part, word_in};
 use literal::builtin_type::BuiltinType;
 use rows::kinds::BlockKind;
+use std::ops::Range;
 
 // `bytes` is the plan itself, `words` has the words of all rows, `rows` where each row's words end, `tables` where each table's rows
-// end, and `index` where the variants of each type stand (crate `variants`); before they are indexed it is empty.
+// end, and `index` where the variants of each type stand (crate `variants`); before they are indexed it is empty. A plan and a sink stay two
+// parameters of those who write: a plan is only read, and of one value each contract would have to say that the plan in it stays.
 #[derive(Clone, Copy)]
 pub struct Plan<'a> {
     pub bytes: &'a [u8],
@@ -65,6 +68,7 @@ impl<'a> Plan<'a> {
     }
 
     // The text of row r, whose words are its start and its end in the plan.
+    #[tactic(auto, using(crate::proofs::Laws::part_found), unfolding(layout::specs::View::text_of))]
     pub fn text_at(&self, r: usize) -> &'a [u8]
         ensures { result.now ≡ text_of self.now.bytes.now (words_of self.now r) }
     {
@@ -76,7 +80,8 @@ impl<'a> Plan<'a> {
     // How many rows table t has.
     #[tactic(auto, using(crate::proofs::Laws::table_length))]
     pub fn row_count(&self, t: usize) -> usize
-        ensures { (result ≡ length (rows_of self.now t)) × (result < 4294967296) }
+        ensures own { (result ≡ length (rows_of self.now t)) × (result < 4294967296) }
+        ensures any { (words rows : List ℕ) → result ≡ length (table_rows words rows self.now.tables.now t) }
     {
         self.end_row(t).saturating_sub(self.first_row(t))
     }
@@ -107,8 +112,16 @@ impl<'a> Plan<'a> {
         next_bound(self.tables, t)
     }
 
-    // The row of the type n, unless it is a builtin one or there is none.
-    #[tactic(auto, using(crate::proofs::Plans::builtin_data, crate::proofs::Plans::type_past))]
+    // The numbers of the rows of table t.
+    pub fn row_range(&self, t: usize) -> Range<usize>
+        ensures first { (result.start ≡ get_or self.now.tables.now t 0) × (result.start < 4294967296) }
+        ensures end { (result.end ≡ get_or self.now.tables.now (t + 1) 0) × (result.end < 4294967296) }
+    {
+        self.first_row(t)..self.end_row(t)
+    }
+
+    // The row of the type n, unless it is a builtin one or there is none. No `then_some`, which would leave both clauses to be answered.
+    #[tactic(auto, using(crate::proofs::Plans::builtin_data, crate::proofs::Plans::type_past, crate::proofs::Plans::type_there, crate::proofs::Plans::type_said))]
     pub fn type_row(&self, n: usize) -> Option<usize>
         ensures declared { IfDeclared self.now n result }
         ensures data { type_by_row self.now n result ≡ type_at (env_of self.now) n }
@@ -169,7 +182,7 @@ impl<'a> Plan<'a> {
     pub fn is_return(&self, r: usize) -> bool
         ensures { result ≡ eqb (nth (words_of self.now r) 1) 3 }
     {
-        matches!(self.block_kind(r), BlockKind::Return)
+        self.block_kind(r) == BlockKind::Return
     }
 
     // What row r, a step, does.
@@ -220,7 +233,7 @@ impl<'a> Plan<'a> {
         ensures { result ≡ field_count (fields_of (type_of (words_of self.now r))) }
     {
         match self.type_at(r) {
-            TypeData::Struct(_, shape) => shape.field_count(self.list(r, 5).len()),
+            TypeData::Struct(_, shape) => shape.field_count(self.list(r, TYPE_HEAD).len()),
             _ => 0,
         }
     }
@@ -230,6 +243,7 @@ impl<'a> Plan<'a> {
     pub fn variant_field_count(&self, r: usize) -> usize
         ensures { result ≡ field_count (variant_of (words_of self.now r)).fields }
     {
-        self.variant_at(r).shape.field_count(self.list(r, 3).len())
+        let shape = self.variant_at(r).shape;
+        shape.field_count(self.list(r, VARIANT_HEAD).len())
     }
 }

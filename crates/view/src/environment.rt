@@ -1,14 +1,15 @@
 // Types and terms: `Type` and `Term` of sema.rs.
-ghost use Rattle.std.specs.Prelude.{◌≡◌, drop};
-ghost use Rattle.rows.specs.View.{declared_of, function_of, type_of, variant_of, term_of};
+ghost use Rattle.std.specs.Prelude.{◌≡◌, ℕ, List, drop};
+ghost use Rattle.rows.specs.View.{declared_of, function_of, shape_of, type_of, variant_of, term_of};
 ghost use Rattle.view.specs.Kinds.{type_by};
-ghost use Rattle.view.specs.Told.{function_told, declared_told, type_told, variant_told, term_told};
+ghost use Rattle.view.specs.Told.{function_told, declared_told, fields_told, type_told, variant_told, term_told};
 
 use super::word_in;
 use literal::builtin_type::BuiltinType;
 use rows::kinds::{Shape, TypeKind};
 
-// A term's constructor or extractor.
+// A term's constructor or extractor. No Option: document 01 has `absent` as one of three words, and of the other two in an Option it would
+// take two matches to tell.
 #[derive(Clone, Copy)]
 pub enum FunctionKind {
     Absent,
@@ -41,7 +42,8 @@ pub struct Variant {
     pub shape: Shape,
 }
 
-// A term, without the types of its arguments, which are the row's list.
+// A term, without the types of its arguments, which are the row's list. Those who read a single cell read it by its number in the row: the cells
+// stand in the order of these names, which the line of names has too (`names` of the crate layout).
 #[derive(Clone, Copy)]
 pub struct Term {
     pub name: usize,
@@ -68,6 +70,14 @@ impl From<u32> for FunctionKind {
             },
         }
     }
+}
+
+// The shape that a number says.
+#[tactic(auto, using(crate::proofs::Made::shape_capped))]
+pub fn shape_made(k: usize) -> Shape
+    ensures { (ws : List ℕ) → fields_told result ws ≡ shape_of k ws }
+{
+    Shape::from(k.min(2) as u32)
 }
 
 // What an enum's and a struct's words say; the name is a primitive type's too.
@@ -98,7 +108,8 @@ impl TypeData {
     }
 }
 
-// The type of a row's words; its fields are the list after five words.
+// The type of a row's words; its fields are the list after five words. It looks like the conversions of `block`, and each is one line over
+// that of another type.
 impl From<&[u32]> for TypeData {
     ghost from_gives = { λ row ty. type_told ty (drop 5 row.now) ≡ type_of row.now };
 
@@ -112,12 +123,12 @@ impl From<&[u32]> for TypeData {
 impl From<&[u32]> for Variant {
     ghost from_gives = { λ row variant. variant_told variant (drop 3 row.now) ≡ variant_of row.now };
 
-    #[tactic(auto, using(crate::proofs::Made::fields_made), unfolding(rows::specs::View::variant_of))]
+    #[tactic(auto, unfolding(rows::specs::View::variant_of))]
     fn from(row: &[u32]) -> Variant {
         Variant {
             ty: word_in(row, 0) as usize,
             name: word_in(row, 1) as usize,
-            shape: Shape::from(word_in(row, 2)),
+            shape: shape_made(word_in(row, 2) as usize),
         }
     }
 }

@@ -3,9 +3,11 @@
 #![tactic(auto)]
 
 pub mod binding;
+pub mod bindings;
 pub mod block;
 pub mod buffers;
 pub mod environment;
+pub mod heads;
 pub mod tables;
 
 ghost use Rattle.std.specs.Prelude.{◌≡◌, ◌+◌, ◌<◌, get_or, drop};
@@ -27,6 +29,7 @@ fn next_bound(index: &[u32], i: usize) -> usize
 }
 
 // The part r of the words that the entries of an index end. Rows are parts by `rows`, and the index of variants has parts by itself.
+#[tactic(auto, using(crate::proofs::Laws::part_found), unfolding(layout::specs::View::cut))]
 fn part<'a>(words: &'a [u32], ends: &[u32], r: usize) -> &'a [u32]
     ensures { result.now ≡ cut words.now ends.now r }
 {

@@ -12,7 +12,8 @@ ghost use Rattle.weights.specs.Between.{rows_between};
 use view::buffers::Plan;
 
 // How many rows are counted of those below a row of a level, among the rows from row `from` up to row `end`: three plain numbers, since a
-// value of them would be made at each call. A `for`: of a chain of iterators over a closure that is a parameter, no answer was found.
+// value of them would be made at each call. A `for`: of a chain of `take_while`, `filter` and `count` over a closure
+// that is a parameter, no answer was found.
 fn count_below<F: Fn(usize) -> bool>(
     plan: &Plan<'_>,
     level: usize,

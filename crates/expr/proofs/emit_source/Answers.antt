@@ -7,4 +7,4 @@ use Rattle.expr.proofs.emit_source.Goals as goal
 
 pub returns : goal.returns
 unfolding emit_source
-returns c = λ v l g. rw (← c.wants_ref.ensures) (emits_borrow c.wants_ref.result c.contains.result (sym c.contains.ensures) (c.put_borrow.ensures (env_of c.args.plan.now) c.args.depth)) ⟫ c.emit_expr.ensures v l g
+returns c = λ v l g. rw (← c.wants_ref.ensures) (emits_borrow c.wants_ref.result c.contains.result (sym c.contains.ensures) (c.put_borrow.ensures (env_of c.args.scope.now.bindings.plan.now) c.args.depth)) ⟫ c.emit_expr.ensures v l g

@@ -7,8 +7,8 @@ use Rattle.levels.proofs.levels_fit.Given as goal
 
 abbrev pub invariant-loop-r : goal.invariant-loop-r
 invariant-loop-r l = record {
-  depth : l.depth ≤ l.r - l.from + 1;
-  room : l.to + 2 ≤ length l.above;
-  nests : nested (map below_at (take l.depth l.above)) (map block_of (cuts l.plan.words.now l.plan.rows.now l.r (l.to - l.r)))
+  depth : l.levels.depth ≤ l.r - l.from + 1;
+  room : l.to + 2 ≤ length l.levels.above.now;
+  nests : nested (map below_at (take l.levels.depth l.levels.above.now)) (map block_of (cuts l.plan.words.now l.plan.rows.now l.r (l.to - l.r)))
       ≡ nested (steps ∷ []) (map block_of (cuts l.plan.words.now l.plan.rows.now l.from (l.to - l.from)));
 }

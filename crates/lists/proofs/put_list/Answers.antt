@@ -11,7 +11,3 @@ returns-then-equal c = rw (sym c.equal.ensures ∙ c.if-equal.true) writes_nothi
 pub returns-in_err-list : goal.returns-in_err-list
 unfolding list_words
 returns-in_err-list c = rw (sym c.equal.ensures ∙ c.if-equal.false, c.in_err-list.was, c.from_residual.ensures) (writes_none (items_none _))
-
-pub returns : goal.returns
-unfolding list_words
-returns c = rw (sym c.equal.ensures ∙ c.if-equal.false, c.in_ok-list.was) c.put_items.ensures

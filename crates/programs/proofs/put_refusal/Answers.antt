@@ -11,4 +11,4 @@ pub returns : goal.returns
 unfolding refused_line
 returns c =
     let b : number c.args.refusal < 18446744073709551616 = omega (arith, c.from.ensures) in
-    line_put c.new-w.ensures.room c.new-w.ensures.start.0 (writes_then c.put_bytes.ensures (writes_then (rw c.from.ensures at c.put_decimal.ensures) c.put_byte.ensures)) (refused_length (number c.args.refusal) b) (search rules)
+    line_put c.new-w.ensures.room c.new-w.ensures.start.0 (writes_then c.put_bytes.ensures (writes_then (rw (c.from-2.ensures, c.from.ensures) at c.put_decimal.ensures) c.put_byte.ensures)) (refused_length (number c.args.refusal) b) (search rules)

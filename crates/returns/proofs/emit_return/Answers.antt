@@ -1,6 +1,5 @@
-use Rattle.std.proofs.Common.{refl, ap}
+use Rattle.std.proofs.Common.{refl}
 use Rattle.codegen.specs.Block.{returning}
-use Rattle.emits.specs.Marks.{set_of}
 use Rattle.body.specs.Lines.{◌⟫ᵢ◌, lines_words}
 use Rattle.returns.proofs.emit_return.Goals as goal
 
@@ -8,8 +7,7 @@ pub returns : goal.returns
 unfolding returning
 returns c = record {
   lines = λ g f i fs s.
-      c.put_rule.ensures i fs _ s ⟫ᵢ (c.put_log.ensures i fs _ s ⟫ᵢ (lines_words s.depth c.put_indent.ensures (c.return_line.ensures.emits g f) c.put_byte.ensures ⟫ᵢ c.put_limit.ensures _ i fs _ s));
+      c.put_rule.ensures i fs _ s.depth ⟫ᵢ (c.put_log.ensures i fs _ s.depth ⟫ᵢ (lines_words s.depth c.put_indent.ensures (c.return_line.ensures g f) c.put_byte.ensures ⟫ᵢ c.put_limit.ensures _ i fs _ s));
   frame = λ r. refl;
-  bound = λ r. ap set_of c.return_line.ensures.same.bound;
-  nesting = c.return_line.ensures.same.nesting;
+  bound = λ r. refl;
 }

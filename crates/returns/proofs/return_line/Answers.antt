@@ -10,9 +10,6 @@ pub returns : goal.returns
 unfolding return_line
 returns c =
     let k = return_kind_told c.args.body.now.ret_kind in
-    record {
-      emits = λ d f.
-          emits_by_kind k "returns.extend(Some(" "return " refl refl c.put_by_kind.ensures ⟫ c.emit_expr.ensures.emits d f ⟫ emits_cloned c.contains.result (sym c.contains.ensures) (c.put_clone.ensures _ _)
-          ⟫ emits_by_kind k "));" ";" refl refl c.put_by_kind-2.ensures;
-      same = c.emit_expr.ensures.same;
-    }
+    λ d f.
+    emits_by_kind k "returns.extend(Some(" "return " refl refl c.put_by_kind.ensures ⟫ c.emit_expr.ensures d f ⟫ emits_cloned c.contains.result (sym c.contains.ensures) (c.put_clone.ensures _ _)
+    ⟫ emits_by_kind k "));" ";" refl refl c.put_by_kind-2.ensures

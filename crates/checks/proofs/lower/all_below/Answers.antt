@@ -18,4 +18,4 @@ returns c =
     all_from_yields_List (λ x. every (λ q. ltb q x.0) (drop 6 (words_of c.args.plan.now x.1))) _ _ _ c.all.ensures.ran
     (YieldsList-from_enumerate (YieldsList-from_range _ _ _ c.enumerate.ensures.source refl) c.enumerate.ensures.count) (λ x b q k. search rules)
     ∙ all_sources c.args.plan.now _ _ _
-    ∙ ap (λ t. sources_below 0 (map binding_of t)) (rows_start c.args.plan.now.words.now c.args.plan.now.rows.now c.args.plan.now.tables.now c.args.t _ _ c.first_row.ensures.0 c.end_row.ensures.0)
+    ∙ ap (λ t. sources_below 0 (map binding_of t)) (rows_start c.args.plan.now.words.now c.args.plan.now.rows.now c.args.plan.now.tables.now c.args.t _ _ c.row_range.ensures.first.0 c.row_range.ensures.end.0)

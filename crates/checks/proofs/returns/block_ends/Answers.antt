@@ -1,4 +1,5 @@
-use mathlib.Core.Path.{refl, ap, ◌∙◌}
+use Prim.Native.Nat.{◌-◌}
+use mathlib.Core.Path.{refl, ap, sym, ◌∙◌}
 use mathlib.Core.List.{map}
 use Rattle.std.proofs.Common.{rules}
 use Rattle.std.proofs.lemmas.Iterator.{YieldsList-from_range}
@@ -13,5 +14,5 @@ use Rattle.checks.proofs.returns.block_ends.Goals as goal
 pub returns : goal.returns
 returns c =
     all_from_yields_List (ended c.args.plan.now c.end_row-end.result) _ _ _ c.all.ensures.ran (YieldsList-from_range _ _ _ refl refl) (λ x b q k. search rules)
-    ∙ all_ended c.args.plan.now _ _ _ refl
-    ∙ ap (λ t. returns_last (map block_of t)) (rows_start c.args.plan.now.words.now c.args.plan.now.rows.now c.args.plan.now.tables.now c.args.t _ _ c.first_row.ensures.0 c.end_row-end.ensures.0)
+    ∙ all_ended c.args.plan.now _ _ _ (ap (λ m. m - c.row_range.result.start) (c.end_row-end.ensures.0 ∙ sym c.row_range.ensures.end.0))
+    ∙ ap (λ t. returns_last (map block_of t)) (rows_start c.args.plan.now.words.now c.args.plan.now.rows.now c.args.plan.now.tables.now c.args.t _ _ c.row_range.ensures.first.0 c.row_range.ensures.end.0)

@@ -1,18 +1,14 @@
-use mathlib.Core.Path.{sym, ◌∙◌}
-use native.Mathlib.Omega.{arith}
-use Rattle.checks.proofs.Tests.{terms_all, terms_none, terms_true, terms_false}
+use Rattle.std.proofs.Common.{rules, refl, ◌∙◌, arith}
+use Rattle.std.proofs.lemmas.Iterator.{YieldsList-from_range, YieldsList-from_map}
+use Rattle.std.proofs.lemmas.Iterator.Search.{all_from_yields_List}
+use Rattle.checks.specs.Tests.{tables_at, generated_of}
+use Rattle.checks.proofs.Tests.{terms_all, all_terms}
 use Rattle.checks.proofs.tables.all_generated.Goals as goal
 
-pub loop-i-init : goal.loop-i-init
-loop-i-init g c = λ P law. terms_all P c.args.plan.now
-
-pub returns-then-not-test : goal.returns-then-not-test
-returns-then-not-test g c = λ P law.
-    sym (terms_false P c.args.plan.now c.loop-i.i _ _ c.generated_tables.ensures (omega arith) (law _ _ c.test.ensures) c.if-not-test.true) ∙ c.loop-i.invariant P law
-
-pub loop-i-preserved : goal.loop-i-preserved
-loop-i-preserved g c = λ P law.
-    terms_true P c.args.plan.now c.loop-i.i _ _ c.generated_tables.ensures (omega arith) (law _ _ c.test.ensures) c.if-not-test.false ∙ c.loop-i.invariant P law
-
 pub returns : goal.returns
-returns g c = λ P law. sym (terms_none P c.args.plan.now c.loop-i.i (omega arith)) ∙ c.loop-i.invariant P law
+returns g c = λ P law.
+    all_from_yields_List (λ t. P (generated_of c.args.plan.now t)) _ _ _ c.all.ensures.ran
+    (YieldsList-from_map _ tables_at (YieldsList-from_range _ _ _ c.map.ensures.source refl) c.map.ensures.closure (λ x b q k. search rules))
+    (λ x b q k. (g.met.F.Fn.1.step_stays _ _ _ _ k, law x b ((g.met.F.FnMut.1.post_iff _ _ _).1 (q, k))))
+    ∙ all_terms P c.args.plan.now 0 _ (omega (arith, c.generated_count.ensures.count))
+    ∙ terms_all P c.args.plan.now

@@ -10,4 +10,4 @@ pub returns : goal.returns
 returns g c = λ P law.
     all_from_yields_List (λ r. P (words_of c.args.plan.now r)) _ _ _ c.all.ensures.ran (YieldsList-from_range _ _ _ refl refl) (λ x b q k. (g.met.F.Fn.1.step_stays _ _ _ _ k, law x b ((g.met.F.FnMut.1.post_iff _ _ _).1 (q, k))))
     ∙ every_row P c.args.plan.now.words.now c.args.plan.now.rows.now _ _
-    ∙ ap (every P) (rows_start c.args.plan.now.words.now c.args.plan.now.rows.now c.args.plan.now.tables.now c.args.t _ _ c.first_row.ensures.0 c.end_row.ensures.0)
+    ∙ ap (every P) (rows_start c.args.plan.now.words.now c.args.plan.now.rows.now c.args.plan.now.tables.now c.args.t _ _ c.row_range.ensures.first.0 c.row_range.ensures.end.0)

@@ -1,11 +1,8 @@
-use mathlib.Core.Path.{refl, sym, ◌∙◌}
+use mathlib.Core.Path.{sym, ◌∙◌}
 use native.Mathlib.Omega.{arith}
 use Rattle.view.specs.Buffers.{env_of}
-use Rattle.constructors.specs.Arguments.{same_all, same_then, refs_next, refs_end}
+use Rattle.constructors.specs.Arguments.{same_then, refs_next, refs_end}
 use Rattle.constructors.proofs.arguments.argument_refs.Goals as goal
-
-pub loop-i-init : goal.loop-i-init
-loop-i-init c = (refl, same_all)
 
 pub loop-i-preserved : goal.loop-i-preserved
 loop-i-preserved c = (
@@ -13,5 +10,5 @@ loop-i-preserved c = (
   same_then c.loop-i.invariant.1 c.mark_argument.ensures.same,
 )
 
-pub returns : goal.returns
-returns c = record { refs = sym (c.loop-i.invariant.0 ∙ refs_end (env_of c.args.plan.now) _ _ _ _ (omega (arith, c.param_count-i-end.ensures))); same = c.loop-i.invariant.1 }
+pub returns-clause-refs : goal.returns-clause-refs
+returns-clause-refs c = sym (c.loop-i.invariant.0 ∙ refs_end (env_of c.args.plan.now) _ _ _ _ (omega (arith, c.param_count-i-end.ensures)))

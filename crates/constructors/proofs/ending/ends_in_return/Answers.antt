@@ -1,19 +1,16 @@
-use mathlib.Core.Path.{◌≡◌, sym, ◌∙◌}
-use mathlib.Core.Bool.{cond}
+use Rattle.std.proofs.Common.{rules, tests, refl, ◌∙◌}
 use lib.Dec.{eqb}
-use native.Mathlib.Omega.{arith}
-use Rattle.std.proofs.Common.{rules}
+use Rattle.std.proofs.lemmas.Iterator.{YieldsList-from_range}
+use Rattle.std.proofs.lemmas.Iterator.Consumers.{YieldsList-from_filter, fold_from_yields_List}
 use Rattle.rows.specs.View.{nth}
 use Rattle.view.specs.Buffers.{words_of}
-use Rattle.constructors.specs.Ending.{returns_next, returns_end}
+use Rattle.constructors.specs.Ending.{returns_fold}
 use Rattle.constructors.proofs.ending.ends_in_return.Goals as goal
-use Rattle.constructors.proofs.ending.ends_in_return.Goals.{then-word-eq0, else-word-eq0}
-
-pub loop-r-preserved : goal.loop-r-preserved
-loop-r-preserved c =
-    let ws = words_of c.args.plan.now c.loop-r.r in
-    let root : c.if-word-eq0.returns ≡ cond (eqb (nth ws 0) 0) (eqb (nth ws 1) 3) c.loop-r.returns = elim c.if-word-eq0.branch [ then-word-eq0 w ↦ search rules | else-word-eq0 w ↦ search rules ] in
-    rw root (sym (returns_next c.args.plan.now.words.now c.args.plan.now.rows.now c.loop-r.r c.args.last c.loop-r.returns c.loop-r-test.true) ∙ c.loop-r.invariant)
 
 pub returns : goal.returns
-returns c = sym (returns_end c.args.plan.now.words.now c.args.plan.now.rows.now c.loop-r.r c.args.last c.loop-r.returns (omega arith)) ∙ c.loop-r.invariant
+returns c =
+    let p = c.args.plan.now in
+    fold_from_yields_List _ (λ _ x. eqb (nth (words_of p x) 1) 3) _ _ c.fold.ensures.ran
+    (YieldsList-from_filter _ (λ r. eqb (nth (words_of p r) 0) 0) (YieldsList-from_range _ _ _ c.filter.ensures.source refl) c.filter.ensures.closure (λ x b q k. search (rules, tests)))
+    (λ a x b q k. search (rules, tests))
+    ∙ returns_fold p.words.now p.rows.now c.args.last c.args.first _ _ refl

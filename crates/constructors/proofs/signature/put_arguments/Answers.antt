@@ -1,9 +1,6 @@
 use native.Mathlib.Omega.{arith}
-use Rattle.constructors.specs.Lines.{arguments_start, arguments_more, arguments_done}
+use Rattle.constructors.specs.Lines.{arguments_more, arguments_done}
 use Rattle.constructors.proofs.signature.put_arguments.Goals as goal
-
-pub loop-i-init : goal.loop-i-init
-loop-i-init c = arguments_start
 
 pub loop-i-preserved : goal.loop-i-preserved
 loop-i-preserved c = arguments_more c.loop-i.invariant c.param_ty.result.0 (omega (arith, c.param_count-i-end.ensures)) c.param_ty.ensures c.put_argument.ensures

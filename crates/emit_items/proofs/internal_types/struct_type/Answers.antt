@@ -9,5 +9,5 @@ use Rattle.emit_items.proofs.internal_types.struct_type.Goals as goal
 pub returns : goal.returns
 unfolding struct_type
 returns c =
-    let copy : c.match-matches.matches ≡ is_unit (fields_read c.args.f.now) = grind (arith, common_steps) in
+    let copy : c.eq.result ≡ is_unit (fields_read c.args.f.now) = grind (arith, common_steps) in
     rw (← copy) (c.type_head.ensures ⟫ₛ shows_fix c.put_bytes.ensures (shows_sym c.put_text.ensures (c.generate_fields.ensures ⟫ₛ c.struct_end.ensures _ _)))

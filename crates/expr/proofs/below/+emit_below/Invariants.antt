@@ -1,16 +1,20 @@
-use Rattle.std.proofs.Common.{suc}
+use Rattle.std.proofs.Common.{◌-◌}
+use Rattle.view.specs.Buffers.{env_of}
 use Rattle.emits.specs.Marks.{set_of}
-use Rattle.expr.specs.Next.{StepIs}
-use Rattle.expr.specs.Writes.{Leaves, rest_of}
+use Rattle.expr.specs.Between.{row_of, source_count}
+use Rattle.expr.proofs.Loops.{Stands}
 use Rattle.expr.proofs.below.+emit_below.Given as goal
 
 -- the sources of a binding are lower bindings
 abbrev pub decreases-emit_below : goal.decreases-emit_below
 decreases-emit_below l = l.b
 
-abbrev pub invariant-loop-i : goal.invariant-loop-i
-invariant-loop-i l =
-    let bound = set_of l.scope.bound.now in
-    let i = l.i-iterator.start in
-    Leaves l.scope.plan.now bound l.scope.bindings l.depth (suc l.b) l.b (rest_of l.scope.plan.now bound l.scope.bindings l.b 0) l.initial.w (set_of l.initial.refs) (rest_of l.scope.plan.now bound l.scope.bindings l.b i) l.w (set_of l.refs)
-    × StepIs l.scope.plan.now bound l.scope.bindings l.depth l.b i l.w l.next
+-- fewer of them are left
+abbrev pub decreases-loop-next : goal.decreases-loop-next
+decreases-loop-next l =
+    let p = l.scope.bindings.plan.now in
+    let row = row_of p l.scope.bindings.table l.b in
+    source_count (env_of p) row.binding row.sources - l.expression.written
+
+abbrev pub invariant-loop-next : goal.invariant-loop-next
+invariant-loop-next l = Stands l.scope.bindings.plan.now (set_of l.scope.bound.now) l.scope.bindings.table l.depth l.b l.initial.w (set_of l.initial.refs) l.expression l.w (set_of l.refs) l.next

@@ -1,4 +1,4 @@
-use Rattle.std.proofs.Common.{suc, ◌*◌, length}
+use Rattle.std.proofs.Common.{suc, ◌*◌}
 use Rattle.expr_faults.proofs.Laws.{Left}
 use Rattle.expr_faults.proofs.written.+expr_holds_source_holds.Given as goal
 
@@ -10,4 +10,4 @@ abbrev pub decreases-source_holds : goal.decreases-source_holds
 decreases-source_holds l = 2 * l.b
 
 abbrev pub invariant-source_holds-loop-word : goal.invariant-source_holds-loop-word
-invariant-source_holds-loop-word l = Left l.question l.bindings l.b (length l.yielded) l.initial.kept l.kept
+invariant-source_holds-loop-word l = Left l.question l.bindings l.b l.word-index l.initial.kept l.kept

@@ -1,7 +1,8 @@
 use Rattle.view.specs.Buffers.{plan_of}
-use Rattle.schedule_rules.specs.Passes.{Passes}
-use Rattle.faults.specs.Terms.{TermsLeft}
+use Rattle.schedule_rules.specs.Passes.{Each}
+use Rattle.faults.specs.Accepted.{TermFits}
+use Rattle.faults.specs.Terms.{LinesLeft}
 use Rattle.faults.proofs.sheet.put_sheet.Given as goal
 
 abbrev pub invariant-loop-i : goal.invariant-loop-i
-invariant-loop-i l = Passes (plan_of l.plan) → TermsLeft l.plan l.initial.w l.i l.w
+invariant-loop-i l = Each TermFits (plan_of l.plan).generated → LinesLeft l.plan l.initial.w l.i l.w

@@ -1,6 +1,6 @@
 use Rattle.std.proofs.Common.{arith}
 use Rattle.layout.proofs.Laws.{is_generated}
-use Rattle.layout.proofs.Filling.{leads_none, nothing_filled, filled_at_end, whole_at_end}
+use Rattle.layout.proofs.Filling.{leads_none, nothing_filled, filled_at_end}
 use Rattle.layout.proofs.Buffers.fill.Goals as goal
 
 pub returns-in_err-at-clause-fill : goal.returns-in_err-at-clause-fill
@@ -9,6 +9,3 @@ returns-in_err-at-clause-fill c = rw c.from_residual.ensures (nothing_filled _ _
 
 pub returns-clause-fill : goal.returns-clause-fill
 returns-clause-fill c = c.loop-at.invariant.leads _ _ _ _ (rw (c.then_some.ensures, c.eq-is_whole.ensures, is_generated, c.table_at.ensures) (filled_at_end c.args.s.now c.loop-at.at c.loop-at.self (omega arith)))
-
-pub returns-clause-whole : goal.returns-clause-whole
-returns-clause-whole c = rw (c.then_some.ensures, c.eq-is_whole.ensures, is_generated, c.table_at.ensures) (whole_at_end _ c.loop-at.self.filled (omega arith) (omega arith) (omega arith))

@@ -11,5 +11,5 @@ abbrev pub invariant-loop-i : goal.invariant-loop-i
 invariant-loop-i l =
     let env = env_of l.plan in
     let f = fields_read l.f in
-    let ws = l.word-items in
+    let ws = l.list in
     (Rest env l.depth (field_patterns env f 0 (patterns_in ws)) l.initial.w (set_of l.initial.refs) (field_patterns env f l.i (patterns_in (drop l.i ws))) l.w (set_of l.refs)) × (l.w.odd ≡ l.initial.w.odd)

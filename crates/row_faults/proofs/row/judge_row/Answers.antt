@@ -1,6 +1,6 @@
 use Rattle.std.proofs.Common.{refl, sym, ◌∙◌}
 use Rattle.view.specs.Buffers.{words_of}
-use Rattle.row_faults.proofs.Laws.{judges_arm, judges_listed}
+use Rattle.row_faults.proofs.Laws.{judges_arm, judges_step}
 use Rattle.row_faults.proofs.row.judge_row.Goals as goal
 
 pub returns-then-not-is_step : goal.returns-then-not-is_step
@@ -9,4 +9,4 @@ returns-then-not-is_step c = judges_arm (words_of c.args.names.now.bindings.plan
 pub returns : goal.returns
 returns c =
     let list = c.list_calls-calls.ensures in
-    judges_listed c.args.r c.args.last (sym c.is_step.ensures ∙ c.if-not-is_step.false) list.names list.found c.judge_check-s.ensures c.save_names-2.ensures refl refl refl refl
+    judges_step (words_of c.args.names.now.bindings.plan.now c.args.r) _ (sym c.is_step.ensures ∙ c.if-not-is_step.false) (record { bindings = refl; names = list.names }) list.found c.judge_check-s.ensures c.save_names-2.ensures refl refl refl refl

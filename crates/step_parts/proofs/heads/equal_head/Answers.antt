@@ -1,4 +1,4 @@
-use Rattle.std.proofs.Common.{refl, ◌∙◌}
+use Rattle.std.proofs.Common.{refl}
 use Rattle.codegen.specs.Piece.{odd_piece, odd_pieces}
 use Rattle.codegen.specs.Block.{equal_head}
 use Rattle.emits.specs.Sinks.{shows_none, shows_fix, shows_brace}
@@ -7,11 +7,6 @@ use Rattle.step_parts.proofs.heads.equal_head.Goals as goal
 
 pub returns : goal.returns
 unfolding equal_head odd_pieces odd_piece
-returns c =
-    let k = c.emit_expr.ensures.same in
-    record {
-      emits = λ d f.
-          emits_say refl (shows_fix c.put_bytes.ensures shows_none) ⟫ c.emit_expr.ensures.emits d.0 f ⟫ emits_say refl (shows_fix c.put_bytes-2.ensures shows_none) ⟫ rw (k.bound, k.nesting) at (c.emit_expr-2.ensures.emits (rw k.nesting d.1) f)
-          ⟫ emits_say refl (shows_brace c.put_bytes-3.ensures shows_none);
-      same = record { bound = c.emit_expr-2.ensures.same.bound ∙ k.bound; nesting = c.emit_expr-2.ensures.same.nesting ∙ k.nesting };
-    }
+returns c = λ d f.
+    emits_say refl (shows_fix c.put_bytes.ensures shows_none) ⟫ c.emit_expr.ensures d.0 f ⟫ emits_say refl (shows_fix c.put_bytes-2.ensures shows_none) ⟫ c.emit_expr-2.ensures d.1 f
+    ⟫ emits_say refl (shows_brace c.put_bytes-3.ensures shows_none)

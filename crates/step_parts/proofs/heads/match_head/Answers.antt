@@ -7,7 +7,4 @@ use Rattle.step_parts.proofs.heads.match_head.Goals as goal
 
 pub returns : goal.returns
 unfolding match_head odd_pieces odd_piece
-returns c = record {
-  emits = λ d f. emits_say refl (shows_fix c.put_bytes.ensures shows_none) ⟫ c.emit_source.ensures.emits d f ⟫ emits_say refl (shows_brace c.put_bytes-2.ensures shows_none);
-  same = c.emit_source.ensures.same;
-}
+returns c = λ d f. emits_say refl (shows_fix c.put_bytes.ensures shows_none) ⟫ c.emit_source.ensures d f ⟫ emits_say refl (shows_brace c.put_bytes-2.ensures shows_none)

@@ -9,6 +9,6 @@ use Rattle.steps.proofs.arm.arm_of.Goals as goal
 
 pub returns : goal.returns
 unfolding emit_arm odd_pieces odd_piece
-returns c = own_opening (set_of c.args.context.now.is_bound) c.put_indent.ensures
-    (λ d f. (rw c.constraint_at-k.ensures at (c.emit_constraint.ensures f.indexed)) ⟫ emits_say refl (shows_fix c.put_bytes.ensures (shows_brace c.put_bytes-2.ensures shows_none)))
-    c.put_byte.ensures c.bind_all.ensures.names refl
+returns c = own_opening (set_of c.args.bound.now) c.put_indent.ensures
+    (λ d f. (rw (c.constraint_at.ensures, c.list-list.ensures) at (c.emit_constraint.ensures f.indexed)) ⟫ emits_say refl (shows_fix c.put_bytes.ensures (shows_brace c.put_bytes-2.ensures shows_none)))
+    c.put_byte.ensures (rw c.list-list.ensures at c.bind_all.ensures.names)

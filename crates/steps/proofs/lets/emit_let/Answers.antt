@@ -5,9 +5,4 @@ use Rattle.steps.proofs.lets.emit_let.Goals as goal
 
 pub returns : goal.returns
 unfolding lets
-returns c = record {
-  lines = λ d f i fs t. lines_words t.depth c.put_indent.ensures (c.let_line.ensures.emits d f) c.put_byte.ensures;
-  frame = λ r. refl;
-  bound = λ r. rw c.let_line.ensures.same.bound at c.insert.ensures.marks;
-  nesting = c.let_line.ensures.same.nesting;
-}
+returns c = record { lines = λ d f i fs t. lines_words t c.put_indent.ensures (c.let_line.ensures d f) c.put_byte.ensures; frame = λ r. refl; bound = λ r. c.insert.ensures.marks }

@@ -12,7 +12,4 @@ pub returns : goal.returns
 unfolding let_line odd_pieces odd_piece
 returns c =
     let t = c.args.body.now in
-    record {
-      emits = λ d f. emits_say (odd_let (env_in t) c.args.b (binding_at (bindings_of t) c.args.b).binding) c.let_head.ensures ⟫ c.emit_expr.ensures.emits d f ⟫ emits_say refl (shows_fix c.put_bytes.ensures shows_none);
-      same = c.emit_expr.ensures.same;
-    }
+    λ d f. emits_say (odd_let (env_in t) c.args.b (binding_at (bindings_of t) c.args.b).binding) c.let_head.ensures ⟫ c.emit_expr.ensures d f ⟫ emits_say refl (shows_fix c.put_bytes.ensures shows_none)

@@ -1,7 +1,8 @@
-use Rattle.std.proofs.Common.{ap, ◌∙◌}
 use Rattle.emits.specs.Marks.{set_of}
 use Rattle.steps.proofs.CheckLaws.{own_opening}
 use Rattle.steps.proofs.matches.one_arm.Goals as goal
 
 pub returns : goal.returns
-returns c = own_opening (set_of c.args.context.now.is_bound) c.put_indent.ensures (λ d f. rw (c.constraint_at-k.ensures, c.bind_all.ensures.names) at (c.one_arm_head.ensures.emits d f)) c.put_byte.ensures (ap set_of c.one_arm_head.ensures.same.bound ∙ c.bind_all.ensures.names) c.one_arm_head.ensures.same.nesting
+returns c =
+    let named = rw c.list.ensures at c.bind_all.ensures.names in
+    own_opening (set_of c.args.bound.now) c.put_indent.ensures (λ d f. rw (c.constraint_at-k.ensures, named) at (c.one_arm_head.ensures d f)) c.put_byte.ensures named

@@ -12,9 +12,9 @@ loop-k-init c = (omega arith, omega arith, refl, cutting_none c.args.text.now (0
 pub loop-k-preserved : goal.loop-k-preserved
 loop-k-preserved c = let h = space_counts (get_or c.args.text.now c.loop-k.i 0) in (
   omega arith,
-  omega arith,
+  omega (arith, c.from-k.ensures),
   length-set c.loop-k.starts (c.loop-k.k + 1) (c.loop-k.i + 1) ∙ c.loop-k.invariant.2,
-  rw h.0 (cutting_turn c.args.text.now c.loop-k.starts c.loop-k.k c.loop-k.i c.loop-k.invariant.3 (omega arith) (omega arith)),
+  rw (c.from-k.ensures, h.0) (cutting_turn c.args.text.now c.loop-k.starts c.loop-k.k c.loop-k.i c.loop-k.invariant.3 (omega arith) (omega arith)),
 )
 
 pub returns-clause-count : goal.returns-clause-count

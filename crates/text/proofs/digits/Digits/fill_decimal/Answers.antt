@@ -4,12 +4,6 @@ use Rattle.text.specs.DigitsLaws.{decimal_four, quotient_four, places, part_less
 use Rattle.text.proofs.Filling.{filled_more}
 use Rattle.text.proofs.digits.Digits.fill_decimal.Goals as goal
 
-pub fill_padded-rest-requires : goal.fill_padded-rest-requires
-fill_padded-rest-requires c = (omega arith, omega arith, omega (arith, places 10 4 c.loop-rest.rest c.loop-rest.self.first (omega arith) c.loop-rest-test.true c.loop-rest.invariant.room.1))
-
-pub loop-rest-smaller : goal.loop-rest-smaller
-loop-rest-smaller c = omega (arith, c.fill_padded-rest.ensures.place, places 10 4 c.loop-rest.rest c.loop-rest.self.first (omega arith) c.loop-rest-test.true c.loop-rest.invariant.room.1)
-
 pub loop-rest-preserved : goal.loop-rest-preserved
 loop-rest-preserved c =
     let i = c.loop-rest.invariant in
