@@ -4,7 +4,7 @@ use Rattle.plan.specs.Plan.{Fields, Environment}
 use Rattle.plan.specs.Binding.{Binding, BindingRow, ConstBool, ConstInt, ConstPrim, Argument, Extractor, Constructor, Iterator, MakeVariant, MakeStruct, MakeSome, MatchSome, MatchTuple, MatchVariant, ExtractStruct}
 use Rattle.plan.specs.Lookup.{type_at, variant_at, fields_of, term_at, binding_at}
 use Rattle.view.specs.Buffers.{bindings_in}
-use Rattle.view.specs.declared.buffers.Plan.{Plan}
+use Rattle.view.specs.declared.bindings.Bindings.{Bindings}
 use Rattle.codegen.specs.Piece.{fix, sym, type, num, var, brace, unbrace, break}
 use Rattle.codegen.specs.ReturnKind.{by_return_kind}
 use Rattle.codegen.specs.Sema.{is_ref, field_name, ExternalSig, extractor_sig, constructor_sig}
@@ -12,9 +12,9 @@ use Rattle.codegen.specs.Writer.{Marks, contains, Writer, say, mark, ask, ◌▸
 use Rattle.codegen.specs.Expr.{emit_bool, emit_int, returns_ref, cloned, emit_binding}
 use Rattle.expr_parts.specs.Sources.{after_one}
 
--- binding b of table t
-abbrev pub row_of : Plan → ℕ → ℕ → BindingRow
-row_of p t b = binding_at (bindings_in p t) b
+-- binding b of a term
+abbrev pub row_of : Bindings → ℕ → BindingRow
+row_of bs b = binding_at (bindings_in bs.plan.now bs.table) b
 
 -- how many sources are written
 abbrev pub source_count : Environment → Binding → List ℕ → ℕ

@@ -14,7 +14,7 @@ use text::sink::Sink;
 // The expression of binding b, whose own lines are `depth` deep. Each source is asked about before it is written. A source's number is
 // below its binding's, so the calls end whatever the buffers hold.
 pub fn emit_below(w: &mut Sink<'_>, refs: &mut [bool], scope: &Scope<'_>, depth: usize, b: usize)
-    ensures { Writes scope.now.bindings.plan.now (set_of scope.now.bound.now) scope.now.bindings.table depth (suc b) (suc b) (λ rec d. rec d b) w.old (set_of refs.old) w.new (set_of refs.new) }
+    ensures { Writes scope.now depth b (suc b) (λ rec d. rec d b) w.old (set_of refs.old) w.new (set_of refs.new) }
 {
     let mut expression = Expression {
         binding: b,

@@ -12,6 +12,7 @@ ghost use Rattle.sema.specs.Signature.{sig_told};
 ghost use Rattle.expr.specs.Between.{row_of, source_count, inner, call_head, before_parameter, after_parameter, opens, after_field, closes, begins, before_source, after_source, ends};
 ghost use Rattle.expr.specs.Call.{called, called_told};
 ghost use Rattle.expr.specs.Next.{NextIs, StepIs};
+ghost use Rattle.expr.specs.Told.{bound_in};
 ghost use Rattle.expr.specs.Writes.{NextPart, UpTo};
 
 use super::Scope;
@@ -112,7 +113,7 @@ impl BindingRow<'_> {
 
     // All that stands before the first source. Constants and arguments have none: this is all of them.
     fn begin(&self, w: &mut Sink<'_>, refs: &mut [bool])
-        ensures { VariantsIndexed self.now.plan.now → let env = env_of self.now.plan.now in (d : ℕ) → Emits env d (begins env self.now.number (binding_told self.now.binding) self.now.sources.now) w.old (set_of refs.old) w.new (set_of refs.new) }
+        ensures { let r = self.now in VariantsIndexed r.plan.now → let env = env_of r.plan.now in (d : ℕ) → Emits env d (begins env r.number (binding_told r.binding) r.sources.now) w.old (set_of refs.old) w.new (set_of refs.new) }
     {
         if let Some(sig) = self.called() {
             return call_head(w, self.plan, refs, self.number, sig);
@@ -165,7 +166,7 @@ impl BindingRow<'_> {
 
     // Before source i.
     fn put_before(&self, w: &mut Sink<'_>, depth: usize, i: usize, given: bool)
-        ensures { VariantsIndexed self.now.plan.now → let env = env_of self.now.plan.now in (d₀ d : ℕ) (m : Marks) → depth ≡ d₀ + d → Emits env d₀ (before_source env d (binding_told self.now.binding) i given) w.old m w.new m }
+        ensures { let r = self.now in VariantsIndexed r.plan.now → let env = env_of r.plan.now in (d₀ d : ℕ) (m : Marks) → depth ≡ d₀ + d → Emits env d₀ (before_source env d (binding_told r.binding) i given) w.old m w.new m }
     {
         if let Some(sig) = self.called() {
             return before_parameter(w, self.plan, sig, i, given);
@@ -188,7 +189,7 @@ impl BindingRow<'_> {
 
     // After source i, which is q: a parameter goes by what was known before it was written, a field is asked about now.
     fn put_after_source(&self, w: &mut Sink<'_>, refs: &[bool], i: usize, q: usize, given: bool)
-        ensures { let env = env_of self.now.plan.now in (d : ℕ) → Emits env d (after_source env (binding_told self.now.binding) i q given) w.old (set_of refs.now) w.new (set_of refs.now) }
+        ensures { let r = self.now in let env = env_of r.plan.now in (d : ℕ) → Emits env d (after_source env (binding_told r.binding) i q given) w.old (set_of refs.now) w.new (set_of refs.now) }
     {
         if let Some(sig) = self.called() {
             return after_parameter(w, self.plan, sig, i, given);
@@ -203,7 +204,7 @@ impl BindingRow<'_> {
 
     // After the last source.
     fn finish(&self, w: &mut Sink<'_>, depth: usize)
-        ensures { let env = env_of self.now.plan.now in (d₀ d : ℕ) (m : Marks) → depth ≡ d₀ + d → Emits env d₀ (ends env d self.now.number (binding_told self.now.binding) self.now.sources.now) w.old m w.new m }
+        ensures { let r = self.now in let env = env_of r.plan.now in (d₀ d : ℕ) (m : Marks) → depth ≡ d₀ + d → Emits env d₀ (ends env d r.number (binding_told r.binding) r.sources.now) w.old m w.new m }
     {
         if let Some(sig) = self.called() {
             return put_call_end(w, self.number, sig);
@@ -215,8 +216,8 @@ impl BindingRow<'_> {
 
     // Up to source i, or to the end, from the start or from the end of the source before. A source that is not below its binding is none.
     fn put_next(&self, w: &mut Sink<'_>, refs: &[bool], depth: usize, i: usize) -> Option<Source>
-        ensures source { NextIs self.now.plan.now depth self.now.number (binding_told self.now.binding) self.now.sources.now i result }
-        ensures written { NextPart self.now.plan.now depth self.now.number (binding_told self.now.binding) self.now.sources.now i w.old (set_of refs.now) w.new (set_of refs.now) }
+        ensures source { let r = self.now in NextIs r.plan.now depth r.number (binding_told r.binding) r.sources.now i result }
+        ensures written { let r = self.now in NextPart r.plan.now depth r.number (binding_told r.binding) r.sources.now i w.old (set_of refs.now) w.new (set_of refs.now) }
     {
         if self.count_sources() <= i {
             self.finish(w, depth);
@@ -237,8 +238,8 @@ impl BindingRow<'_> {
 fn nameless<'a>(bindings: &Bindings<'a>, b: usize) -> BindingRow<'a>
     ensures plan { result.plan.now ≡ bindings.now.plan.now }
     ensures number { result.number ≡ b }
-    ensures binding { binding_told result.binding ≡ (row_of bindings.now.plan.now bindings.now.table b).binding }
-    ensures sources { result.sources.now ≡ (row_of bindings.now.plan.now bindings.now.table b).sources }
+    ensures binding { binding_told result.binding ≡ (row_of bindings.now b).binding }
+    ensures sources { result.sources.now ≡ (row_of bindings.now b).sources }
 {
     BindingRow {
         plan: bindings.plan,
@@ -262,8 +263,8 @@ impl Expression {
     // All up to the first source, or to the end. A binding that has a name is its name.
     #[inline(never)]
     pub fn begin(&self, w: &mut Sink<'_>, refs: &mut [bool], scope: &Scope<'_>) -> Option<Source>
-        ensures source { let s = scope.now in StepIs s.bindings.plan.now (set_of s.bound.now) s.bindings.table self.now.depth self.now.binding 0 w.new result }
-        ensures written { let s = scope.now in UpTo s.bindings.plan.now (set_of s.bound.now) s.bindings.table self.now.depth self.now.binding 0 false w.old (set_of refs.old) w.new (set_of refs.new) }
+        ensures source { StepIs scope.now self.now.depth self.now.binding 0 w.new result }
+        ensures written { UpTo scope.now self.now.depth self.now.binding 0 false w.old (set_of refs.old) w.new (set_of refs.new) }
     {
         if w.end <= w.at {
             return None;
@@ -288,10 +289,10 @@ impl Expression {
         given: bool,
     ) -> Option<Source>
         requires counted { self.old.written < 18446744073709551615 }
-        requires nameless { contains (set_of scope.now.bound.now) self.old.binding ≡ false }
+        requires nameless { contains (bound_in scope.now) self.old.binding ≡ false }
         ensures more { self.new ≡ record self.old { written = self.old.written + 1 } }
-        ensures source { let s = scope.now in StepIs s.bindings.plan.now (set_of s.bound.now) s.bindings.table self.old.depth self.old.binding (self.old.written + 1) w.new result }
-        ensures written { let s = scope.now in UpTo s.bindings.plan.now (set_of s.bound.now) s.bindings.table self.old.depth self.old.binding (self.old.written + 1) given w.old (set_of refs.old) w.new (set_of refs.new) }
+        ensures source { StepIs scope.now self.old.depth self.old.binding (self.old.written + 1) w.new result }
+        ensures written { UpTo scope.now self.old.depth self.old.binding (self.old.written + 1) given w.old (set_of refs.old) w.new (set_of refs.new) }
     {
         let i = self.written;
         self.written += 1;

@@ -7,14 +7,12 @@ mod below;
 mod between;
 pub mod call;
 
-ghost use Rattle.std.specs.Prelude.{◌+◌, ◌<◌, ◌≡◌};
+ghost use Rattle.std.specs.Prelude.{◌≡◌};
 ghost use Rattle.codegen.specs.Expr.{emit_expr, emit_source, wants_ref};
-ghost use Rattle.view.specs.Buffers.{env_of, bindings_in};
 ghost use Rattle.view.specs.Told.{constraint_told};
 ghost use Rattle.emits.specs.Marks.{set_of};
 ghost use Rattle.emits.specs.Runs.{Emits};
-ghost use Rattle.sema.specs.Holds.{VariantsIndexed};
-ghost use Rattle.expr.specs.Lower.{Lower};
+ghost use Rattle.expr.specs.Told.{env_in, bindings_of, bound_in, Fits};
 
 use below::emit_below;
 use emits::stablemapset::contains;
@@ -33,7 +31,7 @@ pub struct Scope<'a> {
 // The expression of binding b, where the line that it stands on is `depth` deep. That this is a small number is a premise and no type,
 // since a type would ask it of callers that need none of this.
 pub fn emit_expr(w: &mut Sink<'_>, refs: &mut [bool], scope: &Scope<'_>, depth: usize, b: usize)
-    ensures { let p = scope.now.bindings.plan.now in VariantsIndexed p → let env = env_of p in let bs = bindings_in p scope.now.bindings.table in Lower bs → depth + b < 4611686018427387904 → Emits env depth (emit_expr env bs (set_of scope.now.bound.now) b) w.old (set_of refs.old) w.new (set_of refs.new) }
+    ensures { let s = scope.now in Fits s depth b → Emits (env_in s) depth (emit_expr (env_in s) (bindings_of s) (bound_in s) b) w.old (set_of refs.old) w.new (set_of refs.new) }
 {
     emit_below(w, refs, scope, depth, b);
 }
@@ -54,7 +52,7 @@ pub fn emit_source(
     q: usize,
     c: Constraint,
 )
-    ensures { let p = scope.now.bindings.plan.now in VariantsIndexed p → let env = env_of p in let bs = bindings_in p scope.now.bindings.table in Lower bs → depth + q < 4611686018427387904 → Emits env depth (emit_source env bs (set_of scope.now.bound.now) q (constraint_told c)) w.old (set_of refs.old) w.new (set_of refs.new) }
+    ensures { let s = scope.now in Fits s depth q → Emits (env_in s) depth (emit_source (env_in s) (bindings_of s) (bound_in s) q (constraint_told c)) w.old (set_of refs.old) w.new (set_of refs.new) }
 {
     put_borrow(w, wants_ref(c), contains(refs, q));
     emit_expr(w, refs, scope, depth, q);

@@ -1,7 +1,7 @@
 use Rattle.std.proofs.Common.{◌-◌}
-use Rattle.view.specs.Buffers.{env_of}
 use Rattle.emits.specs.Marks.{set_of}
 use Rattle.expr.specs.Between.{row_of, source_count}
+use Rattle.expr.specs.Told.{env_in}
 use Rattle.expr.proofs.Loops.{Stands}
 use Rattle.expr.proofs.below.+emit_below.Given as goal
 
@@ -12,9 +12,8 @@ decreases-emit_below l = l.b
 -- fewer of them are left
 abbrev pub decreases-loop-next : goal.decreases-loop-next
 decreases-loop-next l =
-    let p = l.scope.bindings.plan.now in
-    let row = row_of p l.scope.bindings.table l.b in
-    source_count (env_of p) row.binding row.sources - l.expression.written
+    let row = row_of l.scope.bindings l.b in
+    source_count (env_in l.scope) row.binding row.sources - l.expression.written
 
 abbrev pub invariant-loop-next : goal.invariant-loop-next
-invariant-loop-next l = Stands l.scope.bindings.plan.now (set_of l.scope.bound.now) l.scope.bindings.table l.depth l.b l.initial.w (set_of l.initial.refs) l.expression l.w (set_of l.refs) l.next
+invariant-loop-next l = Stands l.scope l.depth l.b l.initial.w (set_of l.initial.refs) l.expression l.w (set_of l.refs) l.next
