@@ -59,8 +59,8 @@ impl TypeKind {
         ensures { cell_number result ≡ get_or type_poss (type_number self) 0 }
     {
         match self {
-            TypeKind::Prim => Cell::Unused,
-            _ => Cell::Number,
+            TypeKind::Enum | TypeKind::Unit | TypeKind::Named | TypeKind::Tuple => Cell::Number,
+            _ => Cell::Unused,
         }
     }
 
