@@ -86,8 +86,8 @@ impl<'a> Plan<'a> {
         self.end_row(t).saturating_sub(self.first_row(t))
     }
 
-    // The number of row i of table t; where the table has no such row, a number that no row has. No Option: such a row reads as no words,
-    // as in the definition, and nobody asks.
+    // The number of row i of table t; where the table has no such row, a number that no row has. Callers pass the number on to accessors, for
+    // which a row that is not there reads as no words, as in the definition.
     #[tactic(auto, using(crate::proofs::Plans::row_there, crate::proofs::Plans::row_none))]
     pub fn row_at(&self, t: usize, i: usize) -> usize
         ensures own { words_of self.now result ≡ get_or (rows_of self.now t) i [] }
