@@ -44,12 +44,12 @@ and_true : (b : Bool) → (b && true) ≡ b
 and_true true = refl
 and_true false = refl
 
-with_builtins : (n : ℕ) → leb n 243 ≡ leb (13 + n) 256
+with_builtins : (n : ℕ) → leb n (256 - length all) ≡ leb (length all + n) 256
 with_builtins n = grind (arith, nat_tests)
 
 module _ (p : Plan) where
   pub counts_tests : (leb (length (rows_of p 1)) 64 && (leb (length (rows_of p 2)) 2048 && (leb (length (rows_of p 3)) 2048
-      && (leb (length (rows_of p 4)) 243 && (leb (length (rows_of p 5)) 1024 && (leb (length (rows_of p 6)) 512 && true))))))
+      && (leb (length (rows_of p 4)) (256 - length all) && (leb (length (rows_of p 5)) 1024 && (leb (length (rows_of p 6)) 512 && true))))))
       ≡ counts_most (env_of p)
   counts_tests =
       let words = p.words.now in

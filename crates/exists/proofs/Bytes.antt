@@ -1,32 +1,24 @@
 -- What refusals 4 to 10 say of the tables of a plan is the same whatever its bytes are: of the texts they ask only how many there are. Assumes nothing.
 use Prim.Native.Nat.{ℕ}
-use mathlib.Core.Path.{◌≡◌, refl, sym, ◌∙◌}
+use mathlib.Core.Path.{◌≡◌, refl}
 use mathlib.Core.Bool.{Bool, true, false, cond, ◌&&◌}
 use mathlib.Core.List.{List}
 use lib.Dec.{ltb}
 use lib.ListN.{length}
-use Rattle.plan.specs.Plan.{Fields, unit, named, tuple, TypeData, Builtin, Primitive, Enum, Struct, Variant, FunctionKind, absent, internal, external, Term, Generated, Environment, Plan}
+use Rattle.plan.specs.Plan as plan
+use Rattle.plan.specs.Plan.{Fields, unit, named, tuple, TypeData, Builtin, Primitive, Enum, Struct, Variant, FunctionKind, absent, internal, external, Term, Generated, Environment}
 use Rattle.plan.specs.Binding.{Binding, ConstBool, ConstInt, ConstPrim, Argument, Extractor, Constructor, Iterator, MakeVariant, MakeStruct, MakeSome, MatchSome, MatchTuple, MatchVariant, ExtractStruct}
 use Rattle.plan.specs.Constraint as constraint
 use Rattle.plan.specs.Constraint.{Constraint}
 use Rattle.plan.specs.Row.{ControlFlow, Match, Equal, Loop, Return, Row, step, arm}
 use Rattle.plan.specs.Lookup.{term_at}
-use Rattle.plan.specs.Refusal.{every, enum_exists, struct_exists, variant_exists, constructor_exists, extractor_exists, fields_exist, function_exists, type_refers, variant_refers, term_refers, binding_refers, constraint_refers, control_flow_refers, row_refers, generated_refers, all_exist, source_count, pattern_count, arm_length_fits, lengths_fit, environment_most, within_most, sources_lower, returns_fit, matches_have_arms, loops_iterate, Outcome, refused, accepted, number_of, judged}
+use Rattle.plan.specs.Refusal.{every, enum_exists, struct_exists, variant_exists, constructor_exists, extractor_exists, fields_exist, function_exists, type_refers, variant_refers, term_refers, binding_refers, constraint_refers, control_flow_refers, row_refers, generated_refers, all_exist, source_count, pattern_count, arm_length_fits, lengths_fit, within_most, sources_lower, returns_fit, matches_have_arms, loops_iterate, Outcome, refused, accepted, number_of, judged}
 use Rattle.exists.specs.Ready.{binding_length_fits, generated_fits}
-use Rattle.view.specs.Tables.{environment_in, plan_in}
 use Rattle.view.specs.Buffers.{env_of, plan_of}
-use Rattle.view.specs.declared.buffers.Plan as buffers
-use Rattle.view.proofs.Plans.{environment_is, generated_is, files_count, syms_count, poss_count, types_are, variants_are, terms_are}
+use Rattle.view.specs.Bytes.{env_with, plan_with, Alike, env_alike, plan_alike, generated_any}
+use Rattle.view.specs.declared.buffers.Plan.{Plan}
+use Rattle.checks.proofs.Bytes.{most_any, lower_any, returns_any, arms_any, loops_any}
 use Rattle.checks.proofs.Every.{every_same}
-
--- environments that have the same types, variants and terms, and as many texts
-pub record Alike (d e : Environment) : Type 0 where
-  pub files : length d.files ≡ length e.files
-  pub syms : length d.syms ≡ length e.syms
-  pub poss : length d.poss ≡ length e.poss
-  pub types : d.types ≡ e.types
-  pub variants : d.variants ≡ e.variants
-  pub terms : d.terms ≡ e.terms
 
 module _ (d e : Environment) (a : Alike d e) where
   enum_same : (n : ℕ) → enum_exists d n ≡ enum_exists e n
@@ -157,103 +149,46 @@ module _ (d e : Environment) (a : Alike d e) where
     every_same (arm_length_fits d) (arm_length_fits e) arm_same g.rows,
   ) refl
 
--- PLANS
+-- THE SAME TABLES WITH OTHER BYTES
 
 number_cond : (b : Bool) (x y : Outcome) (n : ℕ) → number_of x ≡ number_of y → number_of (cond b x (refused n)) ≡ number_of (cond b y (refused n))
 number_cond true x y n h = h
 number_cond false x y n h = refl
 
-module _ (p q : Plan) (a : Alike p.env q.env) (g : p.generated ≡ q.generated) where
-  most_same : within_most p ≡ within_most q
-  unfolding within_most environment_most
-  most_same = rw (a.files, a.syms, a.poss, a.types, a.variants, a.terms, g) refl
+module _ (p : Plan) (bytes : List ℕ) where
+  abbrev q : plan.Plan
+  q = plan_with bytes p
 
-  exist_same : all_exist p ≡ all_exist q
+  abbrev a : Alike q.env (plan_of p).env
+  a = plan_alike p bytes
+
+  pub constructor_any : (n : ℕ) → constructor_exists (env_with bytes p) n ≡ constructor_exists (env_of p) n
+  constructor_any n = constructor_same _ _ (env_alike p bytes) n
+
+  pub extractor_any : (n : ℕ) → extractor_exists (env_with bytes p) n ≡ extractor_exists (env_of p) n
+  extractor_any n = extractor_same _ _ (env_alike p bytes) n
+
+  pub exist_any : all_exist (plan_with bytes p) ≡ all_exist (plan_of p)
   unfolding all_exist
-  exist_same = rw (
-    every_same (type_refers p.env) (type_refers q.env) (type_same p.env q.env a) p.env.types,
-    every_same (variant_refers p.env) (variant_refers q.env) (variant_refers_same p.env q.env a) p.env.variants,
-    every_same (term_refers p.env) (term_refers q.env) (term_same p.env q.env a) p.env.terms,
-    every_same (generated_refers p.env) (generated_refers q.env) (generated_same p.env q.env a) p.generated,
+  exist_any = rw (
+    every_same (type_refers q.env) (type_refers (plan_of p).env) (type_same _ _ a) q.env.types,
+    every_same (variant_refers q.env) (variant_refers (plan_of p).env) (variant_refers_same _ _ a) q.env.variants,
+    every_same (term_refers q.env) (term_refers (plan_of p).env) (term_same _ _ a) q.env.terms,
+    every_same (generated_refers q.env) (generated_refers (plan_of p).env) (generated_same _ _ a) q.generated,
     a.types,
     a.variants,
     a.terms,
-    g,
+    generated_any p bytes,
   ) refl
 
-  fit_same : lengths_fit p ≡ lengths_fit q
+  pub fit_any : lengths_fit (plan_with bytes p) ≡ lengths_fit (plan_of p)
   unfolding lengths_fit
-  fit_same = rw g (every_same (generated_fits p.env) (generated_fits q.env) (fits_same p.env q.env a) q.generated)
+  fit_any = rw (generated_any p bytes) (every_same (generated_fits q.env) (generated_fits (plan_of p).env) (fits_same _ _ a) (plan_of p).generated)
 
-  lower_same : sources_lower p ≡ sources_lower q
-  unfolding sources_lower
-  lower_same = rw g refl
-
-  returns_same : returns_fit p ≡ returns_fit q
-  unfolding returns_fit
-  returns_same = rw (g, a.terms) refl
-
-  armed_same : matches_have_arms p ≡ matches_have_arms q
-  unfolding matches_have_arms
-  armed_same = rw g refl
-
-  loops_same : loops_iterate p ≡ loops_iterate q
-  unfolding loops_iterate
-  loops_same = rw g refl
-
-  judged_same : number_of (judged p) ≡ number_of (judged q)
+  pub judged_any : number_of (judged (plan_with bytes p)) ≡ number_of (judged (plan_of p))
   unfolding judged
-  judged_same = rw (most_same, exist_same, fit_same, lower_same, returns_same, armed_same, loops_same)
-      (number_cond (within_most q) _ _ 4 (number_cond (all_exist q) _ _ 5 (number_cond (lengths_fit q) _ _ 6 (number_cond (sources_lower q) _ _ 7
-      (number_cond (returns_fit q) _ _ 8 (number_cond (matches_have_arms q) _ _ 9 (number_cond (loops_iterate q) (accepted p) (accepted q) 10 refl)))))))
-
--- THE SAME TABLES WITH OTHER BYTES
-
-module _ (p : buffers.Plan) (s : List ℕ) where
-  abbrev env_with : Environment
-  env_with = environment_in s p.words.now p.rows.now p.tables.now
-
-  abbrev plan_with : Plan
-  plan_with = plan_in s p.words.now p.rows.now p.tables.now
-
-  alike : Alike (env_of p) env_with
-  alike =
-      let t = p.bytes.now in
-      let words = p.words.now in
-      let rows = p.rows.now in
-      let tables = p.tables.now in
-      record {
-        files = files_count words rows tables t ∙ sym (files_count words rows tables s);
-        syms = syms_count words rows tables t ∙ sym (syms_count words rows tables s);
-        poss = poss_count words rows tables t ∙ sym (poss_count words rows tables s);
-        types = types_are words rows tables t ∙ sym (types_are words rows tables s);
-        variants = variants_are words rows tables t ∙ sym (variants_are words rows tables s);
-        terms = terms_are words rows tables t ∙ sym (terms_are words rows tables s);
-      }
-
-  alike_plans : Alike (plan_of p).env plan_with.env
-  alike_plans = rw (environment_is p.words.now p.rows.now p.tables.now p.bytes.now, environment_is p.words.now p.rows.now p.tables.now s) alike
-
-  terms_same : (plan_of p).generated ≡ plan_with.generated
-  terms_same = generated_is p.words.now p.rows.now p.tables.now p.bytes.now ∙ sym (generated_is p.words.now p.rows.now p.tables.now s)
-
-  pub enum_any : {x : Bool} (n : ℕ) → x ≡ enum_exists (env_of p) n → x ≡ enum_exists env_with n
-  enum_any n h = h ∙ enum_same _ _ alike n
-
-  pub struct_any : {x : Bool} (n : ℕ) → x ≡ struct_exists (env_of p) n → x ≡ struct_exists env_with n
-  struct_any n h = h ∙ struct_same _ _ alike n
-
-  pub constructor_any : {x : Bool} (n : ℕ) → x ≡ constructor_exists (env_of p) n → x ≡ constructor_exists env_with n
-  constructor_any n h = h ∙ constructor_same _ _ alike n
-
-  pub extractor_any : {x : Bool} (n : ℕ) → x ≡ extractor_exists (env_of p) n → x ≡ extractor_exists env_with n
-  extractor_any n h = h ∙ extractor_same _ _ alike n
-
-  pub exist_any : {x : Bool} → x ≡ all_exist (plan_of p) → x ≡ all_exist plan_with
-  exist_any h = h ∙ exist_same _ _ alike_plans terms_same
-
-  pub fit_any : {x : Bool} → x ≡ lengths_fit (plan_of p) → x ≡ lengths_fit plan_with
-  fit_any h = h ∙ fit_same _ _ alike_plans terms_same
-
-  pub judged_any : {x : ℕ} → x ≡ number_of (judged (plan_of p)) → x ≡ number_of (judged plan_with)
-  judged_any h = h ∙ judged_same _ _ alike_plans terms_same
+  judged_any =
+      let o = plan_of p in
+      rw (most_any p bytes, exist_any, fit_any, lower_any p bytes, returns_any p bytes, arms_any p bytes, loops_any p bytes)
+      (number_cond (within_most o) _ _ 4 (number_cond (all_exist o) _ _ 5 (number_cond (lengths_fit o) _ _ 6 (number_cond (sources_lower o) _ _ 7
+      (number_cond (returns_fit o) _ _ 8 (number_cond (matches_have_arms o) _ _ 9 (number_cond (loops_iterate o) (accepted q) (accepted o) 10 refl)))))))

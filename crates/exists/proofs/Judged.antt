@@ -7,6 +7,7 @@ use native.Mathlib.Omega.{arith}
 use lib.Dec.{ltb}
 use lib.ListN.{length, get_or}
 use borrow.Author.Tests.{lt-ltb, ltb-true, leb-true}
+use Rattle.literal.specs.BuiltinType.{all}
 use Rattle.plan.specs.Plan.{Environment, Generated, Plan}
 use Rattle.plan.specs.Binding.{Binding, ConstBool, ConstInt, ConstPrim, Argument, Extractor, Constructor, Iterator, MakeVariant, MakeStruct, MakeSome, MatchSome, MatchTuple, MatchVariant, ExtractStruct}
 use Rattle.plan.specs.Lookup.{fields_of, term_at, argument_index}
@@ -58,7 +59,7 @@ module _ (plan words rows tables : List ℕ) (q : within_most (plan_in plan word
   few : Few (environment_in plan words rows tables)
   few = rw (environment_is words rows tables plan) at (few_is (plan_in plan words rows tables) q)
 
-  pub few_types : get_or tables 5 0 - get_or tables 4 0 ≤ 243
+  pub few_types : get_or tables 5 0 - get_or tables 4 0 ≤ 256 - length all
   few_types = omega (arith, few.types, types_count words rows tables plan, table_length words rows tables 4)
 
   pub few_variants : get_or tables 6 0 - get_or tables 5 0 ≤ 1024

@@ -22,7 +22,9 @@ use Rattle.view.specs.Tables.{table_rows, environment_in}
 use Rattle.view.proofs.Laws.{table_length}
 use Rattle.view.proofs.Plans.{types_count, builtin_is, variants_are}
 use Rattle.variants.proofs.Variants.{numbers_count, number_at}
-use Rattle.view.specs.Buffers.{Undeclared}
+use Rattle.view.specs.Buffers.{env_of, Undeclared}
+use Rattle.view.specs.Bytes.{env_with, env_alike}
+use Rattle.view.specs.declared.buffers.Plan.{Plan}
 use Rattle.view.specs.Told.{type_told}
 use Rattle.view.specs.declared.environment.TypeData as declared
 use Rattle.exists.specs.Ready.{Ready, Declares}
@@ -32,18 +34,20 @@ and_false true = refl
 and_false false = refl
 
 -- a test of what type n is, where the plan declares it; it fails at the builtin types
-module _ (plan words rows tables : List ℕ) (n : ℕ) (P : TypeData → Bool) (builtin_fails : (t : BuiltinType) → P (Builtin t) ≡ false) where
-  abbrev of_plan : Environment
-  of_plan = environment_in plan words rows tables
+module _ (p : Plan) (n : ℕ) (P : TypeData → Bool) (builtin_fails : (t : BuiltinType) → P (Builtin t) ≡ false) where
+  none_there : Undeclared (env_of p) n → false ≡ (type_exists (env_of p) n && P (type_at (env_of p) n))
+  none_there (inl h) = rw (builtin_is p.words.now p.rows.now p.tables.now p.bytes.now n h, builtin_fails) (and_false (ltb n (length (env_of p).types)))
+  none_there (inr h) = rw (le-ltb n (length (env_of p).types) h) refl
 
-  none_there : Undeclared of_plan n → false ≡ (type_exists of_plan n && P (type_at of_plan n))
-  none_there (inl h) = rw (builtin_is words rows tables plan n h, builtin_fails) (and_false (ltb n (length of_plan.types)))
-  none_there (inr h) = rw (le-ltb n (length of_plan.types) h) refl
+  own_tested : (t : Option declared.TypeData) (x : Bool) {Answers : declared.TypeData → Type 0} → Declares (env_of p) n t → MatchOption t (x ≡ false) Answers
+      → ((t : declared.TypeData) (ws : List ℕ) → Answers t → x ≡ P (type_told t ws)) → x ≡ (type_exists (env_of p) n && P (type_at (env_of p) n))
+  own_tested None x h q k = q ∙ none_there h
+  own_tested (Some t) x h q k = k t h.1.0 q ∙ rw (h.0, ← h.1.1) refl
 
-  pub type_tested : (t : Option declared.TypeData) (x : Bool) {Answers : declared.TypeData → Type 0} → Declares of_plan n t → MatchOption t (x ≡ false) Answers
-      → ((t : declared.TypeData) (ws : List ℕ) → Answers t → x ≡ P (type_told t ws)) → x ≡ (type_exists of_plan n && P (type_at of_plan n))
-  type_tested None x h q k = q ∙ none_there h
-  type_tested (Some t) x h q k = k t h.1.0 q ∙ rw (h.0, ← h.1.1) refl
+  -- whatever the plan's bytes are
+  pub type_tested : (t : Option declared.TypeData) (x : Bool) {Answers : declared.TypeData → Type 0} → Declares (env_of p) n t → MatchOption t (x ≡ false) Answers
+      → ((t : declared.TypeData) (ws : List ℕ) → Answers t → x ≡ P (type_told t ws)) → (bytes : List ℕ) → x ≡ (type_exists (env_with bytes p) n && P (type_at (env_with bytes p) n))
+  type_tested t x h q k bytes = rw (env_alike p bytes).types (own_tested t x h q k)
 
 -- how many fields the variant k of type n has in a list of variants
 abbrev nothing : Variant

@@ -1,5 +1,6 @@
 -- What refusals 5 and 6 need of the index of variants, and what they ask of one binding and one generated term. Assumes nothing: these are definitions.
 use Rattle.std.specs.Prelude.{ℕ, ◌-◌, ◌≤◌, ◌≡◌, true, Bool, ◌&&◌, List, eqb, ltb, length, get_or, Option, MatchOption}
+use Rattle.literal.specs.BuiltinType.{all}
 use Rattle.plan.specs.Plan.{Environment, Generated}
 use Rattle.plan.specs.Binding.{BindingRow}
 use Rattle.plan.specs.Lookup.{type_at}
@@ -11,7 +12,7 @@ use Rattle.variants.specs.Index.{VariantIndex}
 
 -- there are at most 256 types with the builtins, and their variants are indexed
 pub record Ready (words rows tables index : List ℕ) : Type 0 where
-  pub few : get_or tables 5 0 - get_or tables 4 0 ≤ 243
+  pub few : get_or tables 5 0 - get_or tables 4 0 ≤ 256 - length all
   pub index_is : VariantIndex words rows tables index
 
 -- the type n, whatever the words of its list are, if there is one that is no builtin one

@@ -2,15 +2,13 @@
 -- generated terms of an accepted plan fit whatever its bytes are. Assumes nothing.
 use Rattle.std.specs.Prelude.{ℕ, ◌≡◌, refl, List, [], ◌∷◌}
 use Rattle.std.proofs.Math.Path.{fun_ext}
-use Rattle.plan.specs.Plan as plan
 use Rattle.plan.specs.Plan.{Environment, Generated}
 use Rattle.plan.specs.Binding.{BindingRow}
 use Rattle.plan.specs.Row.{ControlFlow, Match, Equal, Loop, Return, Row, step, arm}
 use Rattle.codegen.specs.Writer.{Marks, insert}
 use Rattle.origin.specs.Names.{Names, at_row, past}
-use Rattle.view.specs.Bytes.{generated_any}
+use Rattle.view.specs.Bytes.{plan_with, generated_any}
 use Rattle.view.specs.Buffers.{env_of, plan_of}
-use Rattle.view.specs.Tables.{plan_in}
 use Rattle.view.specs.declared.buffers.Plan.{Plan}
 use Rattle.view.proofs.Plans.{environment_is, term_is}
 use Rattle.schedule_rules.specs.Faults.{returns_many, calls_below, calls, list_calls, check_calls, row_faults, block_faults, table_faults}
@@ -61,16 +59,12 @@ module _ (d e : Environment) (same : returns_many d ≡ returns_many e) where
   lines_same (g ∷ gs) = rw (table_same g, lines_same gs) refl
 
 module _ (p : Plan) (bytes : List ℕ) where
-  -- the plan of these bytes and of the buffers' tables
-  abbrev with_bytes : plan.Plan
-  with_bytes = plan_in bytes p.words.now p.rows.now p.tables.now
-
-  many_any : returns_many with_bytes.env ≡ returns_many (env_of p)
+  many_any : returns_many (plan_with bytes p).env ≡ returns_many (env_of p)
   many_any = rw (environment_is p.words.now p.rows.now p.tables.now bytes) (fun_ext (many_held {p = p} (record { term = term_is p.words.now p.rows.now p.tables.now bytes })))
 
-  pub sheet_any : sheet with_bytes ≡ sheet (plan_of p)
+  pub sheet_any : sheet (plan_with bytes p) ≡ sheet (plan_of p)
   unfolding sheet
   sheet_any = rw (generated_any p bytes, lines_same _ _ many_any (plan_of p).generated, environment_is p.words.now p.rows.now p.tables.now p.bytes.now) refl
 
-  pub fits_any : Passes with_bytes → Each TermFits (plan_of p).generated
-  fits_any x = rw (generated_any p bytes) at (passes_fit with_bytes x)
+  pub fits_any : Passes (plan_with bytes p) → Each TermFits (plan_of p).generated
+  fits_any x = rw (generated_any p bytes) at (passes_fit (plan_with bytes p) x)

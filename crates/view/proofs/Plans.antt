@@ -103,8 +103,8 @@ module _ (words rows tables : List ℕ) where
     unfolding environment_in environment_of
     terms_are = rw (table_of 6)
 
-    pub types_count : length (environment_in plan words rows tables).types ≡ 13 + length (table_rows words rows tables 4)
-    types_count = ap length types_are ∙ length-append (builtins all) (map type_of (table_rows words rows tables 4)) ∙ ap (λ (n : ℕ). 13 + n) (length-map (table_rows words rows tables 4) type_of)
+    pub types_count : length (environment_in plan words rows tables).types ≡ length all + length (table_rows words rows tables 4)
+    types_count = ap length types_are ∙ length-append (builtins all) (map type_of (table_rows words rows tables 4)) ∙ ap (λ (n : ℕ). length all + n) (length-map (table_rows words rows tables 4) type_of)
 
     pub variants_count : length (environment_in plan words rows tables).variants ≡ length (table_rows words rows tables 5)
     variants_count = ap length variants_are ∙ length-map (table_rows words rows tables 5) variant_of
@@ -117,19 +117,19 @@ module _ (words rows tables : List ℕ) where
     unfolding term_of function_of
     term_is n = rw terms_are (get_or-map term_of (table_rows words rows tables 6) n [])
 
-    pub builtin_is : (n : ℕ) → n < 13 → type_at (environment_in plan words rows tables) n ≡ Builtin (get_or all n builtin.Bool)
+    pub builtin_is : (n : ℕ) → n < length all → type_at (environment_in plan words rows tables) n ≡ Builtin (get_or all n builtin.Bool)
     builtin_is n h = rw types_are (get_or-append (builtins all) (map type_of (table_rows words rows tables 4)) (Builtin builtin.Bool) n h ∙ each_builtin all n) where
       each_builtin : (ts : List BuiltinType) (n : ℕ) → get_or (builtins ts) n (Builtin builtin.Bool) ≡ Builtin (get_or ts n builtin.Bool)
       each_builtin [] n = refl
       each_builtin (t ∷ ts) zero = refl
       each_builtin (t ∷ ts) (suc n) = each_builtin ts n
 
-    pub type_is : (n : ℕ) → 13 ≤ n → n - 13 < length (table_rows words rows tables 4) → type_at (environment_in plan words rows tables) n ≡ type_of (get_or (table_rows words rows tables 4) (n - 13) [])
+    pub type_is : (n : ℕ) → length all ≤ n → n - length all < length (table_rows words rows tables 4) → type_at (environment_in plan words rows tables) n ≡ type_of (get_or (table_rows words rows tables 4) (n - length all) [])
     type_is n h g =
-        let z : n ≡ 13 + (n - 13) = omega arith in
+        let z : n ≡ length all + (n - length all) = omega arith in
         rw types_are (ap (λ (m : ℕ). get_or (builtins all ++ map type_of (table_rows words rows tables 4)) m (Builtin builtin.Bool)) z
-        ∙ get_or-append-add (builtins all) (map type_of (table_rows words rows tables 4)) (n - 13) (Builtin builtin.Bool)
-        ∙ mapped (table_rows words rows tables 4) (n - 13) g) where
+        ∙ get_or-append-add (builtins all) (map type_of (table_rows words rows tables 4)) (n - length all) (Builtin builtin.Bool)
+        ∙ mapped (table_rows words rows tables 4) (n - length all) g) where
           mapped : (l : List (List ℕ)) (k : ℕ) → k < length l → get_or (map type_of l) k (Builtin builtin.Bool) ≡ type_of (get_or l k [])
           mapped [] k g = absurd (omega arith)
           mapped (x ∷ l) zero g = refl
@@ -152,16 +152,16 @@ module _ (p : Plan) where
   pub builtin_data : (n : ℕ) → Undeclared (env_of p) n → Builtin (get_or all n builtin.Bool) ≡ type_at (env_of p) n
   builtin_data n (inl h) = sym (builtin_is p.words.now p.rows.now p.tables.now p.bytes.now n h)
   builtin_data n (inr h) =
-      let g : 13 ≤ n = omega (arith, types_count p.words.now p.rows.now p.tables.now p.bytes.now) in
+      let g : length all ≤ n = omega (arith, types_count p.words.now p.rows.now p.tables.now p.bytes.now) in
       ap Builtin (get_or-eq_default all builtin.Bool {n = n} g) ∙ sym (get_or-eq_default (env_of p).types (Builtin builtin.Bool) h)
 
-  pub type_past : (n : ℕ) → 13 ≤ n → length (rows_of p 4) ≤ n - 13 → Undeclared (env_of p) n
+  pub type_past : (n : ℕ) → length all ≤ n → length (rows_of p 4) ≤ n - length all → Undeclared (env_of p) n
   type_past n h g = inr (omega (arith, types_count p.words.now p.rows.now p.tables.now p.bytes.now))
 
-  pub type_there : (n i : ℕ) → 13 ≤ n → i ≡ n - 13 → i < length (rows_of p 4) → type_exists (env_of p) n ≡ true
+  pub type_there : (n i : ℕ) → length all ≤ n → i ≡ n - length all → i < length (rows_of p 4) → type_exists (env_of p) n ≡ true
   type_there n i h e g = lt-ltb n (length (env_of p).types) (omega (arith, types_count p.words.now p.rows.now p.tables.now p.bytes.now))
 
-  pub type_said : (n i r : ℕ) → 13 ≤ n → i ≡ n - 13 → i < length (rows_of p 4) → words_of p r ≡ get_or (rows_of p 4) i [] → type_at (env_of p) n ≡ type_of (words_of p r)
+  pub type_said : (n i r : ℕ) → length all ≤ n → i ≡ n - length all → i < length (rows_of p 4) → words_of p r ≡ get_or (rows_of p 4) i [] → type_at (env_of p) n ≡ type_of (words_of p r)
   type_said n i r h e g q = type_is p.words.now p.rows.now p.tables.now p.bytes.now n h (rw e at g) ∙ ap type_of (sym (rw e at q))
 
   pub multi_is : (m r : ℕ) → words_of p r ≡ get_or (rows_of p 6) m [] → flagged (nth (words_of p r) 3) ≡ (term_at (env_of p) m).multi

@@ -36,7 +36,7 @@ plan_of p = plan_in p.bytes.now p.words.now p.rows.now p.tables.now
 
 -- the type n is a builtin one, or there is none
 abbrev pub Undeclared : plan.Environment → ℕ → Type 0
-Undeclared e n = (n < 13) ⊎ (length e.types ≤ n)
+Undeclared e n = (n < length all) ⊎ (length e.types ≤ n)
 
 -- the type n, by its row: a type that has none is a builtin one
 abbrev pub type_by_row : Plan → ℕ → Option ℕ → plan.TypeData

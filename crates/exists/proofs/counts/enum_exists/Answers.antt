@@ -1,14 +1,11 @@
 use mathlib.Core.Path.{refl}
 use Rattle.std.proofs.Common.{rules}
 use Rattle.plan.specs.Refusal.{is_enum}
-use Rattle.exists.proofs.Bytes.{enum_any}
 use Rattle.exists.proofs.Sorts.{type_tested}
 use Rattle.exists.proofs.counts.enum_exists.Goals as goal
 
-pub returns-clause-own : goal.returns-clause-own
-returns-clause-own c =
-    let p = c.args.plan.now in
-    type_tested p.bytes.now p.words.now p.rows.now p.tables.now c.args.n is_enum (λ t. refl) _ _ c.declared_type.ensures c.is_some_and.ensures (λ t ws q. search rules)
-
 pub returns-clause-any : goal.returns-clause-any
-returns-clause-any c = λ s. enum_any c.args.plan.now s c.args.n (returns-clause-own c)
+returns-clause-any c = type_tested c.args.plan.now c.args.n is_enum (λ t. refl) _ _ c.declared_type.ensures c.is_some_and.ensures (λ t ws q. search rules)
+
+pub returns-clause-own : goal.returns-clause-own
+returns-clause-own c = returns-clause-any c c.args.plan.now.bytes.now
