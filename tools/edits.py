@@ -5,6 +5,8 @@ import re
 
 ROOT = pathlib.Path(__file__).resolve().parent.parent
 LOGS = ROOT / "target/must-fail"
+# What the last `rt ci` of ./test said.
+CI = ROOT / "target/rt-ci.txt"
 # What shows nothing: a proof file that names a goal or a step that the edited code no longer has, and what waits for a part that is refused.
 SHOWS_NOTHING = re.compile(r"that can be named from here|has no field|is not in scope|which was (?:rejected|not admitted)|cannot be checked")
 
@@ -50,9 +52,17 @@ def apply(lines, where):
     return None
 
 
-def log_of(edit, number=None):
-    """What was said of an edit, or of its wrong answer of this number alone."""
-    return LOGS / edit.parent.parent.name / edit.stem / (".log" if number is None else f".log-{number}")
+def log_of(edit, number=0):
+    """What a check of an edit said: the first is of the whole edit, the next of those of its wrong answers that the ones before do not show."""
+    return LOGS / edit.parent.parent.name / edit.stem / (f".log-{number}" if number else ".log")
+
+
+def logs_of(edit):
+    """The logs that there are, in the order in which they were written."""
+    found = []
+    while (log := log_of(edit, len(found))).is_file():
+        found.append(log)
+    return found
 
 
 def proof_of(function):
@@ -76,9 +86,9 @@ def refused_facts(place, log):
     return [text for text in said if not SHOWS_NOTHING.search(text)]
 
 
-def shown(edit, number, answer):
-    """The facts of the wrong answer's place that were refused, in the check of the whole edit, or else in one of this wrong answer alone."""
-    for log in (log_of(edit), log_of(edit, number)):
-        if log.is_file() and (said := refused_facts(answer.place, log.read_text().splitlines())):
+def shown(edit, answer):
+    """The facts of the wrong answer's place that were refused, in the first check that shows any."""
+    for log in logs_of(edit):
+        if said := refused_facts(answer.place, log.read_text().splitlines()):
             return said
     return []
