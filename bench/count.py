@@ -2,11 +2,12 @@
 """Instructions that callgrind counts: they repeat to a thousandth where times don't.
 Usage: count.py sides NAME PROGRAM ARGUMENT..    ours and those of the side NAME, on each plan
        count.py rooms PROGRAM ARGUMENT..         ours on texts beyond any memory, in rooms that double
+       count.py share LIMITED PROGRAM ARGUMENT.. the schedule check less reading and refusals, as a share of the whole answer
 
 The program calls functions `side_..`, in which is counted, and after each of them `counted`. It prints a line of headings, then a line
-for each plan, or for each plan and room, after its one or two calls. Standard input is the program's.
+for each plan, or for each plan and room, after its one to three calls. Standard input is the program's.
 `rooms` ends with status 1 if a byte of a plan takes more than MOST_PLAN instructions or a byte of room more than MOST_ROOM, or if
-there is no answer in SECONDS.
+there is no answer in SECONDS; `share` if the share is more than MOST_SHARE for a plan whose name LIMITED has (names with commas).
 """
 
 import os
@@ -17,6 +18,7 @@ import tempfile
 
 MOST_PLAN = 100
 MOST_ROOM = 12
+MOST_SHARE = 0.25
 SECONDS = 60
 # The C library's `rep stosb` and `rep movsb` are off on both sides, since callgrind counts each byte of them.
 TUNABLES = "glibc.cpu.x86_rep_stosb_threshold=1000000000:glibc.cpu.x86_rep_movsb_threshold=1000000000"
@@ -66,10 +68,29 @@ def rooms(program):
     return most["plan"] <= MOST_PLAN and most["room"] <= MOST_ROOM
 
 
+def share(limited, program):
+    """Three calls for each plan: the check, which reads and judges the plan too, reading and judging alone, and the whole answer."""
+    (headings, *lines), counts = counted(program)
+    assert len(counts) == 3 * len(lines) > 0, "three calls for each plan"
+    print(f"{headings} {'check':>12} {'refusals':>12} {'whole':>12}   share")
+    worst = 0.0
+    for line, check, refusals, whole in zip(lines, counts[::3], counts[1::3], counts[2::3]):
+        of_whole = (check - refusals) / whole
+        worst = max(worst, of_whole) if line.split()[0] in limited else worst
+        print(f"{line} {check:12} {refusals:12} {whole:12}   {of_whole:.3f}")
+    print(f"at most {worst:.3f} of the whole answer for {' and '.join(limited)}")
+    return worst <= MOST_SHARE
+
+
 def main():
-    if len(sys.argv) < 3 or sys.argv[1] not in ("sides", "rooms"):
+    if len(sys.argv) < 3 or sys.argv[1] not in ("sides", "rooms", "share"):
         sys.exit(__doc__)
-    good = rooms(sys.argv[2:]) if sys.argv[1] == "rooms" else sides(sys.argv[2], sys.argv[3:])
+    if sys.argv[1] == "rooms":
+        good = rooms(sys.argv[2:])
+    elif sys.argv[1] == "share":
+        good = share(sys.argv[2].split(","), sys.argv[3:])
+    else:
+        good = sides(sys.argv[2], sys.argv[3:])
     sys.exit(0 if good else 1)
 
 

@@ -11,6 +11,8 @@ bottom:N    31 matches nested in one another, with N returns at level 62, the ar
 items       256 types, 1,024 variants, 512 terms, none generated
 explode:N   N bindings, each a struct of two fields that are both the binding before it: a text of more than 2 ** N bytes
 explodes:N  an iterator term of N returns, each of a binding as the last of explode:30
+shares      an iterator term of 2,000 returns that bind nothing, each of the last of 1,024 bindings as those of explode:1023
+searched    a chain of 400 bindings of 32 sources, searched anew by each of 1,000 matches of one arm, which each give a name
 nested:KIND 1,024 bindings nested in one another, all of a kind that is written through its source
 long:KIND   the same with a text that makes the plan 65,536 bytes long
 deepest     1,024 nested bindings, returned below 31 nested matches, in a plan of 65,536 bytes
@@ -96,6 +98,18 @@ def explodes(n):
     return explode(30, n, 1)
 
 
+def shares():
+    return explode(1023, 2000, 1)
+
+
+def searched(chain=400, matches=1000):
+    """Each match closes the frame of the one before it, so that its names are others, and its arm's own name is asked for too."""
+    bindings = ["arg 0 - -"] + [f"struct 13 - {k},{','.join('0' * 31)}" for k in range(chain)] + ["bool 1 - -"]
+    rows = [f"0 match {chain} - -", f"1 some - - {chain + 1}"] * matches
+    fields = ",".join(["5:1"] * 32)
+    return plan("0 0 0 -", SYMS, [f"named 4 0 0 0 {fields}"], [], ["1 0 1 1 0 in - 0 1"], [(0, bindings, rows)])
+
+
 def nested(kind, more=()):
     """Binding k is written through binding k - 1, and none is bound."""
     words = {"some": "- -", "matchsome": "- -", "iter": "- -", "struct": "13 -", "variant": "13 0"}
@@ -130,7 +144,7 @@ def example():
 
 
 def main():
-    shapes = {f.__name__: f for f in (worked, example, typical, literals, returns, deep, bottom, items, explode, explodes, nested, long, deepest)}
+    shapes = {f.__name__: f for f in (worked, example, typical, literals, returns, deep, bottom, items, explode, explodes, shares, searched, nested, long, deepest)}
     if len(sys.argv) < 2:
         sys.exit(__doc__)
     for shape in sys.argv[1:]:

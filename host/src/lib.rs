@@ -3,6 +3,8 @@
 //! A plan is bytes in the format of `docs/PLAN.md`. The answer to a plan and a buffer is either a
 //! text, which is then the buffer's first bytes, or one of the refusals 1 to 11, and then no byte
 //! of the buffer is changed. Both are proved equal to the definition for every plan and buffer.
+//! `schedule` tells, before a long build, where a plan uses a name before it is introduced; its faults
+//! are proved to be those of the definition.
 //!
 //! ```
 //! let plan = std::fs::read("example/rules.plan")?;
@@ -12,8 +14,12 @@
 //! # Ok::<(), Box<dyn std::error::Error>>(())
 //! ```
 
+mod schedule;
+
 use std::error::Error;
 use std::fmt;
+
+pub use schedule::{Fault, Rule, schedule};
 
 /// The rule of refusal N is line N. `./emit` has it from there too.
 const RULES: &str = include_str!("rules.txt");
@@ -30,6 +36,14 @@ unsafe extern "C" {
         answer_len: usize,
     ) -> u32;
     fn rizhavel_terms(
+        plan: *const u8,
+        plan_len: usize,
+        out: *mut u8,
+        out_len: usize,
+        answer: *mut usize,
+        answer_len: usize,
+    ) -> u32;
+    fn rizhavel_schedule(
         plan: *const u8,
         plan_len: usize,
         out: *mut u8,

@@ -1,3 +1,4 @@
 pub mod Demand1
 pub mod Demand2Items
 pub mod Exported
+pub mod Request01

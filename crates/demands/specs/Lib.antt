@@ -6,3 +6,4 @@ pub mod Demand2Items
 pub mod Demand2Boundaries
 pub mod Demand3
 pub mod Exported
+pub mod Request01

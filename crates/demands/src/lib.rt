@@ -1,3 +1,4 @@
-// The three demands as theorems about the entries: Demand1, Demand2 and Demand3 of specs/ have their sentences, Exported has the same of
-// the C functions; theorems that stand on the order of the checks are in proofs/, in files of the same names. Nothing here runs.
+// The three demands, and what requests promise, as theorems about the entries. Demand1, Demand2, Demand3 and Request01 of specs/ have their sentences,
+// Exported has the demands of the C functions; theorems that stand on the order of the checks are in proofs/, in files of the same names. Nothing
+// here runs.
 #![tactic(auto)]

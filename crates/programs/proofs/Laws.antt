@@ -23,7 +23,7 @@ use Rattle.codegen.specs.Answer.{Answer, refuse, answer_of, answer, terms_answer
 use Rattle.std.specs.Prelude.{Ok, Err, Some, None}
 use Rattle.refusal.specs.Number.{number, refusal_number}
 use Rattle.refusal.specs.declared.Refusal.{Refusal}
-use Rattle.refusal.specs.declared.Refusal.TheVariants as refusal
+use Rattle.refusal.specs.NumberLaws.{some_number}
 use Rattle.emitter.specs.Answered.{Emitted, Answers, items_answer}
 use Rattle.programs.specs.Printed.{refused_line, accepted_line, verdict, printed, count_line, shown}
 
@@ -56,14 +56,14 @@ unfolding count_line
 count_length n l k h g i = simp length-append (omega (arith, decimal_length n h, decimal_length l g, decimal_length k i))
 
 -- a text that fits into the buffer is its first bytes
-first_bytes : {t o : List ℕ} {o' : List ℕ} {n : ℕ} → Puts 65537 t o 0 o' n → length t ≤ 65536 → length o ≡ 65536 → take n o' ≡ t
+first_bytes : {t o : List ℕ} {o' : List ℕ} {n : ℕ} → Puts 65537 t o 0 o' n → length t ≤ 65536 → 65536 ≤ length o → take n o' ≡ t
 first_bytes {t} {o} {o'} {n} p h l =
     let f : (n ≡ 0 + length t) × (o' ≡ _) = puts_fit p (omega arith) in
     let q : n ≡ length t = omega arith in
     rw (q, puts_written p (omega arith) (omega arith)) (take-append_seam t (drop (0 + length t) o))
 
 -- a line that a sink has put from the buffer's start
-pub line_put : {t : List ℕ} {w w' : Sink} → w.end ≡ 65537 → w.at ≡ 0 → Writes t w w' → length t ≤ 65536 → length w.out.now ≡ 65536 → take w'.at w'.out.now ≡ t
+pub line_put : {t : List ℕ} {w w' : Sink} → w.end ≡ 65537 → w.at ≡ 0 → Writes t w w' → length t ≤ 65536 → 65536 ≤ length w.out.now → take w'.at w'.out.now ≡ t
 line_put e a q h l = first_bytes (rw (e, a) at q.puts) h l
 
 pub accepted_length : length accepted_line ≤ 65536
@@ -99,20 +99,6 @@ module _ (plan : List ℕ) {room : ℕ} {r : Emitted} {before after : List ℕ} 
   pub items_printed : Answers (items_answer plan room) r before after → shown r after ≡ printed (items_answer plan 65536)
   unfolding items_answer
   items_printed p = shown_is (sized (λ q. render q.env 0 (items q)) 65536 (outcome plan)) (rw e at p)
-
--- a refusal has a number above 0
-some_number : (r : Refusal) → number r ≡ 0 → ⊥
-some_number refusal.TooLong h = absurd (omega arith)
-some_number refusal.Byte h = absurd (omega arith)
-some_number refusal.Layout h = absurd (omega arith)
-some_number refusal.Most h = absurd (omega arith)
-some_number refusal.Exists h = absurd (omega arith)
-some_number refusal.Lengths h = absurd (omega arith)
-some_number refusal.Lower h = absurd (omega arith)
-some_number refusal.Returns h = absurd (omega arith)
-some_number refusal.Armless h = absurd (omega arith)
-some_number refusal.Loop h = absurd (omega arith)
-some_number refusal.Room h = absurd (omega arith)
 
 -- the line that is printed of a plan's lowest refusal
 pub none_refused : {m : ℕ} → refusal_number None ≡ m → accepted_line ≡ verdict m

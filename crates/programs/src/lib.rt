@@ -9,6 +9,7 @@ ghost use Rattle.emitter.specs.Answered.{items_answer};
 ghost use Rattle.plan.specs.Refusal.{refusal};
 ghost use Rattle.refusal.specs.Number.{number};
 ghost use Rattle.programs.specs.Printed.{refused_line, accepted_line, verdict, printed, numbers, counted, shown};
+ghost use Rattle.schedule_rules.specs.Sheet.{schedule_text};
 
 use emitter::{Numbers, Text};
 use refusal::Refusal;
@@ -16,9 +17,13 @@ use std::io;
 use std::io::{ErrorKind, Print, Read};
 use text::sink::Sink;
 
+// The buffer of the program `schedule`: no sheet is longer (`schedule_rules/proofs/Room`).
+pub const SHEET: usize = 288_369;
+
 // The line `refused N`. This and the next two make a sink and give how far it came: a function for that, with what is put as a closure, would
 // take as many lines, and each closure a clause of its own for what it writes.
-fn put_refusal(out: &mut [u8; 65536], refusal: Refusal) -> usize
+fn put_refusal(out: &mut [u8], refusal: Refusal) -> usize
+    requires { 65536 ≤ length out.now }
     ensures { take result out.new ≡ refused_line (number refusal) }
 {
     let mut w = Sink::new(out, 65537);
@@ -105,6 +110,17 @@ pub fn accept(plan: &[u8], out: &mut [u8; 65536]) -> usize
     }
 }
 
+// What the program `schedule` prints: the whole sheet, whatever its length.
+#[tactic(auto, using(crate::proofs::Sheets::sheet_printed))]
+pub fn schedule(plan: &[u8], out: &mut [u8; SHEET]) -> usize
+    ensures { take result out.new ≡ schedule_text plan.now }
+{
+    match schedule_check::schedule(plan, out) {
+        Ok(length) => length,
+        Err(refused) => put_refusal(out, refused),
+    }
+}
+
 // The first n bytes.
 pub fn first(out: &[u8], n: usize) -> &[u8]
     ensures { result.now ≡ take n out.now }
@@ -143,7 +159,7 @@ pub fn read_full<R: Read>(input: &mut R, buf: &mut [u8]) -> io::Result<usize>
     Ok(done)
 }
 
-// What each program does: reads a plan, and prints what its function puts into the buffer, as `whole`. No contract can say what is
+// What each program but `schedule` does: reads a plan, and prints what its function puts into the buffer, as `whole`. No contract can say what is
 // written.
 pub fn run<R: Read, F: Fn(&[u8], &mut [u8; 65536]) -> usize>(
     input: &mut R,
@@ -157,5 +173,14 @@ pub fn run<R: Read, F: Fn(&[u8], &mut [u8; 65536]) -> usize>(
     let mut out = [0u8; 65536];
     let n = read_full(input, &mut plan)?;
     let length = answer(&plan[..n], &mut out);
+    rt.write_all(first(&out, length))
+}
+
+// The same of the program `schedule`, whose buffer is longer: a function that is handed on takes an array of one length.
+pub fn run_schedule<R: Read>(input: &mut R, rt: &impl Print) -> io::Result<()> {
+    let mut plan = [0u8; 65537];
+    let mut out = [0u8; SHEET];
+    let n = read_full(input, &mut plan)?;
+    let length = schedule(&plan[..n], &mut out);
     rt.write_all(first(&out, length))
 }

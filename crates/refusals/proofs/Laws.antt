@@ -12,9 +12,9 @@ use Rattle.plan.specs.Refusal.{fits_length, bytes_allowed, Outcome, refused, acc
 use Rattle.reader.specs.Reading.{of_layout, reading, Holding, Says}
 use Rattle.reader.specs.declared.Held.{Held}
 use Rattle.refusal.specs.declared.Refusal.{Refusal}
-use Rattle.refusal.specs.declared.Refusal.TheVariants.{TooLong, Byte, Layout, Most, Exists, Lengths, Lower, Returns, Armless, Loop, Room}
 use Rattle.refusal.specs.Number as refusal
 use Rattle.refusal.specs.Number.{result_number, refusal_number}
+use Rattle.refusal.specs.NumberLaws.{some_number}
 use Rattle.std.specs.Result.{result_err}
 use Rattle.std.specs.declared.result.Result as rust
 use Rattle.std.specs.Prelude.{Ok, Err}
@@ -46,22 +46,6 @@ result p =
     (turned 6 (omega arith)))
     (turned 5 (omega arith)))
     (turned 4 (omega arith))
-
--- a refusal has a number
-some_number : (r : Refusal) → refusal.number r ≡ 0 → ⊥
-some_number r e = absurd (omega (arith, numbered r)) where
-  numbered : (r : Refusal) → 0 < refusal.number r
-  numbered TooLong = omega arith
-  numbered Byte = omega arith
-  numbered Layout = omega arith
-  numbered Most = omega arith
-  numbered Exists = omega arith
-  numbered Lengths = omega arith
-  numbered Lower = omega arith
-  numbered Returns = omega arith
-  numbered Armless = omega arith
-  numbered Loop = omega arith
-  numbered Room = omega arith
 
 abbrev go_on : Outcome → Outcome
 go_on (refused n) = refused n

@@ -1,4 +1,4 @@
-use Rattle.std.specs.Prelude.{◌<◌}
+use Rattle.std.specs.Prelude.{ℕ, ◌<◌, ◌≡◌, List, take}
 use Rattle.std.proofs.Common.{arith}
 use borrow.Author.Rules.{rules}
 use Rattle.text.specs.Writes.{writes_then}
@@ -11,4 +11,6 @@ pub returns : goal.returns
 unfolding refused_line
 returns c =
     let b : number c.args.refusal < 18446744073709551616 = omega (arith, c.from.ensures) in
-    line_put c.new-w.ensures.room c.new-w.ensures.start.0 (writes_then c.put_bytes.ensures (writes_then (rw (c.from-2.ensures, c.from.ensures) at c.put_decimal.ensures) c.put_byte.ensures)) (refused_length (number c.args.refusal) b) (search rules)
+    let q = writes_then c.put_bytes.ensures (writes_then (rw (c.from-2.ensures, c.from.ensures) at c.put_decimal.ensures) c.put_byte.ensures) in
+    let e : ◌≡◌ {A = List ℕ} c.out-1.given.0 c.put_byte.new.self.out.now = search (rules, q.buffer) in
+    rw e (line_put c.new-w.ensures.room c.new-w.ensures.start.0 q (refused_length (number c.args.refusal) b) (search rules))
