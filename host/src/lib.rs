@@ -26,32 +26,23 @@ const RULES: &str = include_str!("rules.txt");
 
 type Entry = unsafe extern "C" fn(*const u8, usize, *mut u8, usize, *mut usize, usize) -> u32;
 
-unsafe extern "C" {
-    fn rizhavel_whole(
-        plan: *const u8,
-        plan_len: usize,
-        out: *mut u8,
-        out_len: usize,
-        answer: *mut usize,
-        answer_len: usize,
-    ) -> u32;
-    fn rizhavel_terms(
-        plan: *const u8,
-        plan_len: usize,
-        out: *mut u8,
-        out_len: usize,
-        answer: *mut usize,
-        answer_len: usize,
-    ) -> u32;
-    fn rizhavel_schedule(
-        plan: *const u8,
-        plan_len: usize,
-        out: *mut u8,
-        out_len: usize,
-        answer: *mut usize,
-        answer_len: usize,
-    ) -> u32;
+/// The C functions of the static library are all of this kind.
+macro_rules! entries {
+    ($($name:ident)*) => {
+        unsafe extern "C" {
+            $(fn $name(
+                plan: *const u8,
+                plan_len: usize,
+                out: *mut u8,
+                out_len: usize,
+                answer: *mut usize,
+                answer_len: usize,
+            ) -> u32;)*
+        }
+    };
 }
+
+entries!(rizhavel_whole rizhavel_terms rizhavel_schedule);
 
 /// A text was written.
 #[derive(Clone, Copy, Debug, PartialEq, Eq)]

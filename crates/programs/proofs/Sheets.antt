@@ -1,11 +1,10 @@
 -- The buffer of the program `schedule` holds each sheet, so what it prints is the sheet or the line of a refusal from 1 to 10. Assumes nothing.
-use Rattle.std.specs.Prelude.{ℕ, ◌+◌, ◌≤◌, ◌≡◌, refl, Bool, true, false, cond, List, [], ◌∷◌, ◌++◌, leb, eqb, length, take, drop, Ok, Err}
-use Rattle.std.proofs.Common.{◌∙◌, arith, le-leb}
+use Rattle.std.specs.Prelude.{ℕ, ◌≡◌, refl, List, length, take, drop, Ok, Err}
+use Rattle.std.proofs.Common.{arith, le-leb}
 use Rattle.std.proofs.Math.Seq.{take-append_seam}
 use Rattle.plan.specs.Plan.{Plan}
 use Rattle.plan.specs.Refusal.{Outcome, refused, accepted, outcome}
-use Rattle.codegen.specs.Answer.{Answer, refuse}
-use Rattle.codegen.specs.AnswerLaws.{Judged, turned_away, taken, judged_outcome}
+use Rattle.codegen.specs.AnswerLaws.{Judged, turned_away, judged_outcome}
 use Rattle.refusal.specs.Number.{number}
 use Rattle.refusal.specs.NumberLaws.{some_number}
 use Rattle.refusal.specs.declared.Refusal.{Refusal}

@@ -1,4 +1,4 @@
-use Rattle.std.specs.Prelude.{ℕ, ◌<◌, ◌≡◌, List, take}
+use Rattle.std.specs.Prelude.{ℕ, ◌<◌, ◌≡◌, List}
 use Rattle.std.proofs.Common.{arith}
 use borrow.Author.Rules.{rules}
 use Rattle.text.specs.Writes.{writes_then}
