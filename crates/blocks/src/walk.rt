@@ -111,7 +111,7 @@ fn close_frame(w: &mut Sink<'_>, context: &mut BodyContext, frame: &Frame<RowFra
 }
 
 // The bindings that have names where the frame that row r opens closes are kept; a `return` opens no frame. Not one function with
-// `save_names` of `row_faults`: this goes through codegen.rs's step `enter_scope`, which document 01 names and a judge does not take;
+// `save_names` of `faults::names`: this goes through codegen.rs's step `enter_scope`, which document 01 names and a judge does not take;
 // one function for both would take the step out of here.
 fn save_scope(scope: &mut [bool; 1024], bound: &[bool; 1024], body: &Body<'_>, r: usize)
     ensures { (nth (row_in body.now r) 1 ≡ 3 → ⊥) → scope.new ≡ bound.now }

@@ -1,3 +1,4 @@
+pub mod Block
 pub mod Closing
 pub mod Laws
 pub mod Context

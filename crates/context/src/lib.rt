@@ -4,3 +4,4 @@
 pub mod block;
 pub mod body_context;
 pub mod by_value;
+pub mod lent;

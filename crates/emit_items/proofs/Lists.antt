@@ -26,7 +26,7 @@ use Rattle.codegen.specs.Piece.{Piece, fix, file, sym, type, break}
 use Rattle.codegen.specs.Sema.{field_name, field_type}
 use Rattle.codegen.specs.Items.{file_lines, public, named_fields, tuple_fields, generate_fields, is_unit, all_unit, variant_lines, internal_type, generate_internal_types}
 use Rattle.emits.specs.Sinks.{shows_none, shows_text}
-use Rattle.ctx_trait.specs.Parts.{separator, joined}
+use Rattle.emit_items.specs.TraitParts.{separator, joined}
 use Rattle.emit_items.specs.Parts.{depth, named_field, tuple_field, variant_line}
 
 -- HEADER

@@ -4,7 +4,7 @@ use Rattle.plan.specs.Plan.{Fields, Variant}
 use Rattle.codegen.specs.Piece.{Piece, fix, sym, type, break}
 use Rattle.codegen.specs.Sema.{field_name, field_type}
 use Rattle.codegen.specs.Items.{public, generate_fields}
-use Rattle.ctx_trait.specs.Parts.{separator}
+use Rattle.emit_items.specs.TraitParts.{separator}
 
 -- how deep the braces of fields stand: those of a struct, which may be `pub`, and those of a variant
 abbrev pub depth : Bool → ℕ

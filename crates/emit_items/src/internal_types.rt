@@ -11,7 +11,7 @@ ghost use Rattle.sema.specs.Holds.{VariantsIndexed};
 ghost use Rattle.sema.specs.Fields.{fields_read};
 ghost use Rattle.emit_items.specs.Parts.{depth, field_start, named_field, tuple_field, derives, variant_line};
 
-use ctx_trait::put_separator;
+use crate::ctx_trait::put_separator;
 use literal::builtin_type::BuiltinType;
 use rows::kinds::Shape;
 use sema::fields::Fields;

@@ -1,7 +1,8 @@
 // The items before the terms: header, context trait and internal types, as codegen.rs writes them.
 // What a contract says, it says of the environment that the plan's buffers hold (`env_of` of the crate view).
-#![tactic(auto, using(ctx_trait::specs::Shown::shown))]
+#![tactic(auto, using(crate::specs::Shown::shown))]
 
+pub mod ctx_trait;
 pub mod header;
 pub mod internal_types;
 
@@ -21,6 +22,6 @@ pub fn items(w: &mut Sink<'_>, plan: &Plan<'_>)
     // A single cell is read by its number in the row, in the order of the table's names line.
     let nopragmas = plan.flag(plan.row_at(OPTIONS, 0), 0);
     header::generate_header(w, plan, nopragmas);
-    ctx_trait::generate_ctx_trait(w, plan);
+    crate::ctx_trait::generate_ctx_trait(w, plan);
     internal_types::generate_internal_types(w, plan);
 }

@@ -11,7 +11,7 @@ use Rattle.view.specs.Tables.{plan_in}
 use Rattle.emitter.specs.Answered.{items_answer}
 use Rattle.emitter.specs.declared.Form.{Form}
 use Rattle.emitter.specs.declared.Form.TheVariants.{Whole, Terms, Items}
-use Rattle.variants.specs.Index.{VariantIndex}
+use Rattle.view.specs.Index.{VariantIndex}
 use Rattle.view.specs.declared.buffers.Plan as buffers
 
 -- the text that is asked for, and how many of its literals are odd

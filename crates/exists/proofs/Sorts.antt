@@ -21,7 +21,7 @@ use Rattle.layout.specs.View.{cut, cuts}
 use Rattle.view.specs.Tables.{table_rows, environment_in}
 use Rattle.view.proofs.Laws.{table_length}
 use Rattle.view.proofs.Plans.{types_count, builtin_is, variants_are}
-use Rattle.variants.proofs.Variants.{numbers_count, number_at}
+use Rattle.view.proofs.variants.Variants.{numbers_count, number_at}
 use Rattle.view.specs.Buffers.{env_of, Undeclared}
 use Rattle.view.specs.Bytes.{env_with, env_alike}
 use Rattle.view.specs.declared.buffers.Plan.{Plan}

@@ -8,7 +8,7 @@ use Rattle.plan.specs.Refusal.{type_exists, every, binding_refers, source_count,
 use Rattle.view.specs.Buffers.{Undeclared}
 use Rattle.view.specs.Told.{type_told}
 use Rattle.view.specs.declared.environment.TypeData.{TypeData}
-use Rattle.variants.specs.Index.{VariantIndex}
+use Rattle.view.specs.Index.{VariantIndex}
 
 -- there are at most 256 types with the builtins, and their variants are indexed
 pub record Ready (words rows tables index : List ℕ) : Type 0 where

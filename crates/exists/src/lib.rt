@@ -12,12 +12,13 @@ ghost use Rattle.plan.specs.Refusal.{number_of, judged};
 ghost use Rattle.view.specs.Buffers.{plan_of};
 ghost use Rattle.view.specs.Tables.{plan_in};
 ghost use Rattle.refusal.specs.Number.{result_number};
-ghost use Rattle.variants.specs.Index.{VariantIndexIn};
+ghost use Rattle.view.specs.Index.{VariantIndexIn};
 
 use checks::{arms, loops, lower, most, returns};
 use indexed::Indexed;
 use refusal::Refusal;
 use view::buffers::Plan;
+use view::variants;
 
 // The lowest of the refusals 4 to 10, if there is one; a plan that passes has its variants indexed.
 #[tactic(auto, using(crate::proofs::Bytes::judged_any, crate::proofs::Judged::arguments_are_few, crate::proofs::Judged::few_types, crate::proofs::Judged::few_variants), unfolding(plan::specs::Refusal::judged))]

@@ -12,7 +12,7 @@ use Rattle.codegen.specs.Sema.{extractor_sig, constructor_sig}
 use Rattle.sema.specs.declared.signature.ExternalSig.{ExternalSig}
 use Rattle.sema.specs.Signature.{sig_told}
 use Rattle.emits.specs.Runs.{Emits}
-use Rattle.consts.specs.EmitsLaws.{emits_by}
+use Rattle.expr_parts.specs.EmitsLaws.{emits_by}
 use Rattle.expr.specs.Call.{Called, called, called_told}
 
 module _ (e : Environment) (P : Binding → sema.ExternalSig → Type 0) (x : (m : ℕ) → P (Extractor m) (extractor_sig (term_at e m))) (c : (m : ℕ) → P (Constructor m) (constructor_sig (term_at e m))) where

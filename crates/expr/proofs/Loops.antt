@@ -14,7 +14,7 @@ use Rattle.codegen.specs.Writer.{Marks, contains, Writer, ◌▸◌}
 use Rattle.codegen.specs.Expr.{emit_below, emit_expr}
 use Rattle.emits.specs.Runs.{Emits, Rest, ◌⟫◌, emits_ask, emits_past}
 use Rattle.splitting.specs.Cases.{by_leb}
-use Rattle.consts.specs.EmitsLaws.{emits_same}
+use Rattle.expr_parts.specs.EmitsLaws.{emits_same}
 use Rattle.expr_parts.specs.Sources.{one_source}
 use Rattle.expr_parts.proofs.Laws.{emits_nothing}
 use Rattle.expr.specs.Between.{row_of, source_count, inner, turns}

@@ -19,7 +19,7 @@ use Rattle.codegen.specs.Sema.{is_ref, ExternalSig, extractor_sig, constructor_s
 use Rattle.codegen.specs.Expr.{passed, parameters, cloned, call, field_lines, extract_fields, emit_binding}
 use Rattle.emits.specs.Sinks.{shows_none, shows_break, shows_unbrace}
 use Rattle.emits.specs.Runs.{Emits, emits_say, emits_ask}
-use Rattle.consts.specs.EmitsLaws.{shows_var_put}
+use Rattle.expr_parts.specs.EmitsLaws.{shows_var_put}
 use Rattle.expr_parts.specs.Sources.{after_one}
 use Rattle.expr.specs.Between.{source_count, inner, call_head, before_parameter, after_parameter, call_end, opens, before_field, after_field, closes, begins, turn_next, turns, next_part, from_source, up_to, from_here, entire}
 

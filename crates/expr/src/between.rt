@@ -17,9 +17,9 @@ ghost use Rattle.expr.specs.Writes.{NextPart, UpTo};
 
 use super::Scope;
 use super::call::called;
-use consts::pieces::put_var;
-use consts::{emit_bool, emit_int};
 use emits::stablemapset::contains;
+use expr_parts::consts::{emit_bool, emit_int};
+use expr_parts::pieces::put_var;
 use expr_parts::{
     argument, const_prim, field_head, mark_result, parameter_count, put_after, put_borrow,
     put_call_end, put_clone, type_name, variant_name,

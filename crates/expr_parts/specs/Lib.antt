@@ -1,1 +1,2 @@
+pub mod EmitsLaws
 pub mod Sources

@@ -1,6 +1,9 @@
 // What an expression is made of beside its sources. The marks are slices of any length, which a set with 1,024 would narrow.
 #![tactic(auto, using(emits::specs::Emitted::emitted), unfolding(codegen::specs::Piece::odd_pieces, codegen::specs::Piece::odd_piece))]
 
+pub mod consts;
+pub mod pieces;
+
 ghost use Rattle.std.specs.Prelude.{ℕ, ◌+◌, min, ◌≡◌, refl, cond, not, ◌&&◌, [], ◌∷◌, ◌++◌, length, get_or};
 ghost use Rattle.plan.specs.Plan.{Environment};
 ghost use Rattle.codegen.specs.Piece.{fix, sym, type, num, var, break};
@@ -17,7 +20,7 @@ ghost use Rattle.sema.specs.Fields.{fields_read};
 ghost use Rattle.sema.specs.Signature.{sig_told};
 ghost use Rattle.expr_parts.specs.Sources.{after_one};
 
-use consts::pieces::put_var;
+use crate::pieces::put_var;
 use emits::stablemapset::{contains, insert};
 use sema::fields::Fields;
 use sema::signature::{ExternalSig, ReturnKind};
@@ -148,7 +151,7 @@ pub fn parameter_count(plan: &Plan<'_>, sources: &[u32], sig: ExternalSig) -> us
 }
 
 // The end of a call: an iterator's takes the binding's own name.
-#[tactic(auto, using(emits::specs::Emitted::shown, consts::specs::EmitsLaws::shows_var_put), unfolding(codegen::specs::ReturnKind::by_return_kind))]
+#[tactic(auto, using(emits::specs::Emitted::shown, crate::specs::EmitsLaws::shows_var_put), unfolding(codegen::specs::ReturnKind::by_return_kind))]
 pub fn put_call_end(w: &mut Sink<'_>, b: usize, sig: ExternalSig)
     ensures { (env : Environment) (d : ℕ) → Shows env d (by_return_kind (sig_told env sig).ret_kind (fix ", &mut " refl ∷ var b ∷ []) [] [] ++ (fix ")" refl ∷ [])) w.old w.new }
 {

@@ -14,7 +14,7 @@ use Rattle.view.proofs.Plans.{environment_is, term_is}
 use Rattle.schedule_rules.specs.Faults.{returns_many, calls_below, calls, list_calls, check_calls, row_faults, block_faults, table_faults}
 use Rattle.schedule_rules.specs.Passes.{Each, Passes}
 use Rattle.schedule_rules.specs.Sheet.{plan_lines, sheet}
-use Rattle.expr_faults.specs.Held.{many_held}
+use Rattle.faults.specs.Held.{many_held}
 use Rattle.faults.specs.Accepted.{TermFits, passes_fit}
 
 -- environments in which the same calls return many

@@ -1,3 +1,10 @@
+pub mod Kept
+pub mod Held
+pub mod Ready
+pub mod Names
+pub mod Arms
+pub mod Step
+pub mod Row
 pub mod Told
 pub mod Stack
 pub mod Walk

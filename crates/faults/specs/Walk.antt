@@ -27,11 +27,11 @@ use Rattle.schedule_rules.specs.Faults.{Letters, row_faults, block_faults, no_na
 use Rattle.schedule_rules.specs.Found.{Lower}
 use Rattle.schedule_rules.specs.Sheet.{row_lines, table_lines}
 use Rattle.view.specs.Buffers.{words_of, env_of}
-use Rattle.expr_faults.specs.Kept.{bindings_of}
+use Rattle.faults.specs.Kept.{bindings_of}
 use Rattle.view.specs.declared.bindings.Bindings.{Bindings}
-use Rattle.row_faults.specs.Row.{JudgesRow}
-use Rattle.row_faults.specs.declared.check.Step.{Step}
-use Rattle.row_faults.specs.declared.names.Names.{Names as CodeNames}
+use Rattle.faults.specs.Row.{JudgesRow}
+use Rattle.faults.specs.declared.check.Step.{Step}
+use Rattle.faults.specs.declared.names.Names.{Names as CodeNames}
 use Rattle.faults.specs.Told.{letters_told}
 use Rattle.faults.specs.Stack.{scope_told, scopes_told, names_told, around_last, restore_last, keep_last, restore_none, keep_none}
 

@@ -4,7 +4,7 @@ ghost use Rattle.text.specs.Writes.{Writes};
 ghost use Rattle.schedule_rules.specs.Sheet.{fault_line, row_lines};
 ghost use Rattle.faults.specs.Told.{letters_told};
 
-use row_faults::check::Letters;
+use crate::check::Letters;
 use text::sink::Sink;
 
 // The line of a fault, if there is one.

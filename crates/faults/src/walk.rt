@@ -7,8 +7,8 @@ ghost use Rattle.row_frames.specs.Stack.{open_frames};
 ghost use Rattle.faults.specs.Walk.{BlockPut};
 
 use super::line::put_row;
-use row_faults::names::Names;
-use row_faults::row::judge_row;
+use crate::names::Names;
+use crate::row::judge_row;
 use row_frames::stack::{Frame, Stack};
 use std::ops::Range;
 use text::sink::Sink;

@@ -13,7 +13,7 @@ use lib.Seq.{take-suc-set, append_snoc}
 use Rattle.text.specs.Split.{null, split, same}
 use Rattle.tokens.specs.Token.{until}
 use Rattle.tokens.proofs.Laws.{parts_some, split_more, split_last}
-use Rattle.values.specs.Words.{Holds, Wrote}
+use Rattle.cells.specs.Words.{Holds, Wrote}
 use denote.Enum.Bare.{sameb}
 use Rattle.rows.specs.contracts.Table.{the_type}
 use Rattle.rows.specs.declared.Table.{Table}

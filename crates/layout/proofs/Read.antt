@@ -16,8 +16,8 @@ use Rattle.plan.specs.Plan.{Options, Generated, Environment, Plan}
 use Rattle.plan.specs.Binding.{BindingRow}
 use Rattle.plan.specs.Row.{Row}
 use Rattle.plan.specs.Layout.{◌⊛◌, each, one, only, then, number, row, at, options_row, text_row, type_row, variant_row, term_row, binding_row, block_row, nested, steps, table, generated_term, generated_terms, builtins, environment, plan_of, read}
-use Rattle.values.specs.Words.{word}
-use Rattle.values.specs.Value.{cell}
+use Rattle.cells.specs.Words.{word}
+use Rattle.cells.specs.Value.{cell}
 use Rattle.rows.specs.Row.{generated_words, text_words, row_words}
 use Rattle.rows.specs.View.{nth, options_of, type_of, variant_of, term_of, binding_of, block_of}
 use Rattle.rows.proofs.Decode.{row_law, options_law, type_law, variant_law, term_law}

@@ -6,11 +6,11 @@ ghost use Rattle.text.specs.Split.{split, same};
 ghost use Rattle.layout.specs.Scan.{sort_at, names, scan, Fill, Whole};
 ghost use Rattle.layout.specs.Filling.{SameBuffers, Put, Ended, HasRoom, PutTable};
 ghost use Rattle.rows.specs.Row.{row_words};
-ghost use Rattle.values.specs.Words.{Wrote};
+ghost use Rattle.cells.specs.Words.{Wrote};
 ghost use Rattle.rows.specs.Table.{table_number};
 
+use cells::values::Words;
 use rows::Table;
-use values::Words;
 
 // How many words, rows and tables stand at the fronts of the buffers.
 #[derive(Clone, Copy, Debug, Default, PartialEq, Eq)]

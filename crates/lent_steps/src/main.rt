@@ -4,7 +4,7 @@
 #![tactic(auto)]
 
 use context::body_context::BodyContext;
-use lent_context::block::{BothWays, both_ways};
+use context::lent::{BothWays, both_ways};
 use std::io;
 
 // The numbers of a set's bindings, each after a space.

@@ -15,7 +15,7 @@ use Rattle.codegen.specs.Sema.{is_ref, field_type}
 use Rattle.codegen.specs.Pattern.{skipped_some, field_patterns, emit_fields}
 use Rattle.emits.specs.Sinks.{Shows, shows_none, shows_brace}
 use Rattle.emits.specs.Runs.{Emits, Rest, ◌⟫◌, emits_say, emits_mark, emits_ask, rest_more}
-use Rattle.consts.specs.EmitsLaws.{rest_same}
+use Rattle.expr_parts.specs.EmitsLaws.{rest_same}
 use Rattle.expr_parts.proofs.Laws.{emits_nothing}
 use Rattle.row_frames.specs.Patterns.{patterns_cons, patterns_end}
 

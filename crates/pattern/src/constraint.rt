@@ -11,9 +11,9 @@ ghost use Rattle.emits.specs.Marks.{set_of};
 ghost use Rattle.sema.specs.Holds.{VariantsIndexed};
 
 use super::fields::emit_fields;
-use consts::pieces::put_var;
-use consts::{emit_bool, emit_int};
 use emits::stablemapset::{contains, insert};
+use expr_parts::consts::{emit_bool, emit_int};
+use expr_parts::pieces::put_var;
 use expr_parts::{const_prim, type_name, variant_name};
 use sema::types::TypeId;
 use text::sink::Sink;

@@ -13,8 +13,8 @@ ghost use Rattle.sema.specs.Fields.{fields_read};
 ghost use Rattle.view.specs.Told.{pattern_told};
 
 use super::bind::skipped_some;
-use consts::pieces::{put_break, put_var};
 use emits::stablemapset::insert;
+use expr_parts::pieces::{put_break, put_var};
 use sema::fields::Fields;
 use text::sink::Sink;
 use view::block::pattern_of;
@@ -74,7 +74,7 @@ fn field_patterns(
 }
 
 // `..` stands for the fields that are not bound.
-#[tactic(auto, using(emits::specs::Emitted::shown, consts::specs::EmitsLaws::shows_break_put))]
+#[tactic(auto, using(emits::specs::Emitted::shown, expr_parts::specs::EmitsLaws::shows_break_put))]
 fn put_skipped(w: &mut Sink<'_>, depth: usize, skipped: bool)
     ensures { (env : Environment) → Shows env depth (cond skipped (break 1 ∷ fix ".." refl ∷ []) [] ++ (break 0 ∷ unbrace ∷ [])) w.old w.new }
 {

@@ -1,5 +1,7 @@
-// A plan's bytes into the reader's buffers: refusals 1 to 3.
+// A plan's bytes into the reader's buffers: refusals 1 to 3. How block rows nest is in `levels`.
 #![tactic(auto)]
+
+pub mod levels;
 
 ghost use Rattle.std.specs.Prelude.{◌≡◌, ◌<◌, length};
 ghost use Rattle.plan.specs.Refusal.{allowed, bytes_allowed};
@@ -83,7 +85,7 @@ pub fn read_into(plan: &[u8], buffers: &mut Buffers<'_>, above: &mut [u8]) -> Re
     buffers.tables[0] = 0;
     let filled = buffers.fill(plan).ok_or(Refusal::Layout)?;
     let laid = view_of(plan, buffers);
-    if !levels::all_fit(&laid, filled.rows, filled.tables, above) {
+    if !crate::levels::all_fit(&laid, filled.rows, filled.tables, above) {
         return Err(Refusal::Layout);
     }
     // By its fields: a `From<Filled>` for this one place would name them in its body and in its clause.

@@ -14,10 +14,10 @@ use Rattle.plan.specs.Plan.{Field, Fields, unit, named, tuple, Declared, TypeDat
 use Rattle.plan.specs.Layout.{◌⊛◌, each, number, is, unused, bit, function_kind, list, field, pattern_binding, row, at, options_row, Kind, by_kind, shapes, declared, type_row, variant_row, term_row}
 use Rattle.tokens.specs.Token.{place}
 use Rattle.tokens.proofs.Laws.{parts_some}
-use Rattle.values.specs.Words.{◌⧺◌, word}
-use Rattle.values.specs.Value.{flag, function_word, threshold, cell, kind_word}
-use Rattle.values.proofs.Laws.{number_small}
-use Rattle.lists.specs.Items.{unbound, pattern_word, field_words, item, items, list_words}
+use Rattle.cells.specs.Words.{◌⧺◌, word}
+use Rattle.cells.specs.Value.{flag, function_word, threshold, cell, kind_word}
+use Rattle.cells.proofs.values.Laws.{number_small}
+use Rattle.cells.specs.Items.{unbound, pattern_word, field_words, item, items, list_words}
 use Rattle.rows.specs.Row.{options_words, type_kinds, type_bits, type_poss, type_lists, type_words, shape_kinds, shape_lists, variant_words, term_words}
 use Rattle.rows.specs.View.{flagged, options_of, fields_in, shape_of, type_of, variant_of, function_of, term_of, pattern_of, patterns_in}
 

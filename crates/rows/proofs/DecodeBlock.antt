@@ -17,10 +17,10 @@ use Rattle.plan.specs.Row.{Match, Equal, Loop, Return, Row, step, arm}
 use Rattle.plan.specs.Layout.{◌⊛◌, number, is, unused, bit, number_to, digit, hex_digits, hex_from, value, list, pattern_binding, at, or_else, by_kind, alone, with_number, with_field, with_bit, with_numbers, with_value, binding_row, step_kinds, arm_kinds, block_row}
 use Rattle.plan.specs.Layout as layout
 use Rattle.tokens.specs.Token.{place}
-use Rattle.values.specs.Words.{◌⧺◌, word}
-use Rattle.values.specs.Value.{flag, cell, Wide, wide_words, pad, word_range, value_of, integer, wide, kind_word}
-use Rattle.values.proofs.Laws.{eight, in_eights}
-use Rattle.lists.specs.Items.{list_words}
+use Rattle.cells.specs.Words.{◌⧺◌, word}
+use Rattle.cells.specs.Value.{flag, cell, Wide, wide_words, pad, word_range, value_of, integer, wide, kind_word}
+use Rattle.cells.proofs.values.Laws.{eight, in_eights}
+use Rattle.cells.specs.Items.{list_words}
 use Rattle.rows.specs.Row.{binding_kinds, binding_as, binding_bs, binding_words, block_kinds, block_as, block_bs, block_lists, block_words}
 use Rattle.rows.specs.View.{flagged, binding_made, binding_of, step_made, arm_made, patterns_in, block_of}
 use Rattle.rows.proofs.Decode.{row_law, flagged_flag, list_numbers, list_patterns, names_of, by_place, ltb_suc}

@@ -15,10 +15,10 @@ use Rattle.text.specs.Split.{split, same}
 use Rattle.tokens.specs.Token.{place}
 use Rattle.plan.specs.Layout.{row}
 use Rattle.plan.specs.Layout.{at}
-use Rattle.values.specs.Words.{◌⧺◌, word}
-use Rattle.values.specs.Value.{cell}
-use Rattle.values.specs.Cell.{cell_number}
-use Rattle.values.specs.declared.Cell.{Cell}
+use Rattle.cells.specs.Words.{◌⧺◌, word}
+use Rattle.cells.specs.Value.{cell}
+use Rattle.cells.specs.Cell.{cell_number}
+use Rattle.cells.specs.declared.values.Cell.{Cell}
 use Rattle.rows.specs.Cells.{cells}
 use Rattle.rows.specs.View.{fields_in}
 

@@ -11,10 +11,10 @@ use borrow.Author.Tests.{eqb-true, eqb-false}
 use Rattle.text.specs.Split.{push, split, same}
 use Rattle.plan.specs.Layout.{◌⊛◌, number, is, unused, bit, only, number_to, function_kind, field, pattern_binding, row, at}
 use Rattle.tokens.proofs.Laws.{parts_some}
-use Rattle.values.specs.Words.{◌⧺◌, word}
-use Rattle.values.specs.Value.{threshold, cell, Wide, wide_words, integer, wide}
-use Rattle.lists.proofs.Laws.{field_two, field_other}
-use Rattle.lists.specs.Items.{pattern_word, field_words, item, items, list_words}
+use Rattle.cells.specs.Words.{◌⧺◌, word}
+use Rattle.cells.specs.Value.{threshold, cell, Wide, wide_words, integer, wide}
+use Rattle.cells.proofs.lists.Laws.{field_two, field_other}
+use Rattle.cells.specs.Items.{pattern_word, field_words, item, items, list_words}
 use Rattle.rows.specs.Row.{options_words, type_words, variant_words, term_words, generated_words, binding_words, block_words, text_words, row_words, header, Within, Sized}
 
 -- the bytes of parts

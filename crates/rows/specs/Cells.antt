@@ -2,10 +2,10 @@
 use Rattle.std.specs.Prelude.{ℕ, ◌+◌, List, [], ◌∷◌}
 use Rattle.std.proofs.Math.Option.{Option, some}
 use Rattle.plan.specs.Layout.{at}
-use Rattle.values.specs.Words.{◌⧺◌, word}
-use Rattle.values.specs.Value.{cell}
-use Rattle.values.specs.Cell.{cell_number}
-use Rattle.values.specs.declared.Cell.{Cell}
+use Rattle.cells.specs.Words.{◌⧺◌, word}
+use Rattle.cells.specs.Value.{cell}
+use Rattle.cells.specs.Cell.{cell_number}
+use Rattle.cells.specs.declared.values.Cell.{Cell}
 
 -- the columns of a line from one on, each as the sort of cell at its place says
 unfoldable pub cells : List Cell → List (List ℕ) → ℕ → Option (List ℕ)

@@ -5,9 +5,9 @@ use Rattle.text.specs.Codes.{codes}
 use Rattle.text.specs.Split.{split}
 use Rattle.plan.specs.Layout.{◌⊛◌, row, at}
 use Rattle.tokens.specs.Token.{place}
-use Rattle.values.specs.Words.{◌⧺◌, word}
-use Rattle.values.specs.Value.{cell, wide, wide_words, kind_word}
-use Rattle.lists.specs.Items.{list_words}
+use Rattle.cells.specs.Words.{◌⧺◌, word}
+use Rattle.cells.specs.Value.{cell, wide, wide_words, kind_word}
+use Rattle.cells.specs.Items.{list_words}
 
 -- `nopragmas log split threshold`
 unfoldable pub options_words : List ℕ → Option (List ℕ)

@@ -6,8 +6,8 @@ use Rattle.plan.specs.Binding.{Binding, BindingRow, ConstBool, ConstInt, ConstPr
 use Rattle.plan.specs.Constraint as constraint
 use Rattle.plan.specs.Constraint.{Constraint}
 use Rattle.plan.specs.Row.{ControlFlow, Match, Equal, Loop, Return, Row, step, arm}
-use Rattle.values.specs.Value.{Wide, value_of}
-use Rattle.lists.specs.Items.{unbound}
+use Rattle.cells.specs.Value.{Wide, value_of}
+use Rattle.cells.specs.Items.{unbound}
 
 -- word i of a row
 abbrev pub nth : List ℕ → ℕ → ℕ

@@ -5,15 +5,15 @@
 ghost use Rattle.std.specs.Prelude.{◌≡◌, ℕ, List, Some, length, ltb, get_or, option_map};
 ghost use Rattle.plan.specs.Lookup.{field_count};
 ghost use Rattle.tokens.specs.Token.{told, place};
-ghost use Rattle.values.specs.Value.{kind_word};
-ghost use Rattle.values.specs.Cell.{cell_number, wide_number};
-ghost use Rattle.lists.specs.Lists.{sort_number};
+ghost use Rattle.cells.specs.Value.{kind_word};
+ghost use Rattle.cells.specs.Cell.{cell_number, wide_number};
+ghost use Rattle.cells.specs.Lists.{sort_number};
 ghost use Rattle.rows.specs.Row.{type_kinds, type_bits, type_poss, type_lists, shape_kinds, shape_lists, binding_kinds, binding_as, binding_bs, block_kinds, block_as, block_bs, block_lists};
 ghost use Rattle.rows.specs.View.{shape_of};
 ghost use Rattle.rows.specs.Kinds.{type_number, type_kind, shape_number, shape_kind, binding_number, binding_kind, block_number, block_kind};
 
-use lists::ListOf;
-use values::{Cell, WideCell};
+use cells::lists::ListOf;
+use cells::values::{Cell, WideCell};
 
 #[derive(Clone, Copy, PartialEq, Eq)]
 pub enum TypeKind {
@@ -25,7 +25,7 @@ pub enum TypeKind {
 }
 
 impl TypeKind {
-    #[tactic(auto, unfolding(crate::specs::Row::type_kinds, text::specs::Split::split, tokens::specs::Token::place, tokens::specs::Token::told, values::specs::Value::kind_word))]
+    #[tactic(auto, unfolding(crate::specs::Row::type_kinds, text::specs::Split::split, tokens::specs::Token::place, tokens::specs::Token::told, cells::specs::Value::kind_word))]
     pub fn read(t: &[u8]) -> Option<TypeKind>
         ensures { option_map type_number result ≡ told (kind_word 5 (place type_kinds t.now)) }
     {
@@ -106,7 +106,7 @@ pub enum Shape {
 }
 
 impl Shape {
-    #[tactic(auto, unfolding(crate::specs::Row::shape_kinds, text::specs::Split::split, tokens::specs::Token::place, tokens::specs::Token::told, values::specs::Value::kind_word))]
+    #[tactic(auto, unfolding(crate::specs::Row::shape_kinds, text::specs::Split::split, tokens::specs::Token::place, tokens::specs::Token::told, cells::specs::Value::kind_word))]
     pub fn read(t: &[u8]) -> Option<Shape>
         ensures { option_map shape_number result ≡ told (kind_word 3 (place shape_kinds t.now)) }
     {
@@ -183,7 +183,7 @@ pub enum BindingKind {
 }
 
 impl BindingKind {
-    #[tactic(auto, unfolding(crate::specs::Row::binding_kinds, text::specs::Split::split, tokens::specs::Token::place, tokens::specs::Token::told, values::specs::Value::kind_word))]
+    #[tactic(auto, unfolding(crate::specs::Row::binding_kinds, text::specs::Split::split, tokens::specs::Token::place, tokens::specs::Token::told, cells::specs::Value::kind_word))]
     pub fn read(t: &[u8]) -> Option<BindingKind>
         ensures { option_map binding_number result ≡ told (kind_word 14 (place binding_kinds t.now)) }
     {
@@ -290,7 +290,7 @@ pub enum BlockKind {
 }
 
 impl BlockKind {
-    #[tactic(auto, unfolding(crate::specs::Row::block_kinds, text::specs::Split::split, tokens::specs::Token::place, tokens::specs::Token::told, values::specs::Value::kind_word))]
+    #[tactic(auto, unfolding(crate::specs::Row::block_kinds, text::specs::Split::split, tokens::specs::Token::place, tokens::specs::Token::told, cells::specs::Value::kind_word))]
     pub fn read(t: &[u8]) -> Option<BlockKind>
         ensures { option_map block_number result ≡ told (kind_word 10 (place block_kinds t.now)) }
     {

@@ -6,14 +6,14 @@ pub mod kinds;
 ghost use Rattle.std.specs.Prelude.{◌≡◌, ◌+◌, ◌-◌, ◌<◌, ◌≤◌, eqb, length, get_or};
 ghost use Rattle.text.specs.Split.{split};
 ghost use Rattle.rows.specs.Cells.{cells};
-ghost use Rattle.values.specs.Writes.{Writes};
+ghost use Rattle.cells.specs.Writes.{Writes};
 ghost use Rattle.rows.specs.Row.{options_words, type_words, variant_words, term_words, generated_words, binding_words, block_words, text_words, row_words};
 ghost use Rattle.rows.specs.Table.{table_number};
 
+use cells::lists::{ListOf, put_list};
+use cells::values::{Cell, Words};
 use kinds::{BindingKind, BlockKind, Shape, TypeKind};
-use lists::ListOf;
 use tokens::Line;
-use values::{Cell, Words};
 
 // The sorts of tables of a plan.
 #[derive(Clone, Copy, PartialEq, Eq)]
@@ -42,7 +42,7 @@ fn put_cells(sorts: &[Cell], line: &Line<'_>, from: usize, words: &mut Words<'_>
     Some(())
 }
 
-#[tactic(auto, using(values::proofs::Laws::writes_none, crate::proofs::Laws::row_lacks), unfolding(crate::specs::Row::options_words))]
+#[tactic(auto, using(cells::proofs::values::Laws::writes_none, crate::proofs::Laws::row_lacks), unfolding(crate::specs::Row::options_words))]
 fn put_options(line: &[u8], words: &mut Words<'_>) -> Option<()>
     ensures { Writes (options_words line.now) words.old result words.new }
 {
@@ -56,7 +56,7 @@ fn put_options(line: &[u8], words: &mut Words<'_>) -> Option<()>
 }
 
 // No `put_cells`: an array made for each row took 6 to 9 percent longer, where those of `put_options` and `put_term` took less.
-#[tactic(auto, using(values::proofs::Laws::writes_none, crate::proofs::Laws::row_lacks), unfolding(crate::specs::Row::type_words))]
+#[tactic(auto, using(cells::proofs::values::Laws::writes_none, crate::proofs::Laws::row_lacks), unfolding(crate::specs::Row::type_words))]
 fn put_type(line: &[u8], words: &mut Words<'_>) -> Option<()>
     ensures { Writes (type_words line.now) words.old result words.new }
 {
@@ -68,10 +68,10 @@ fn put_type(line: &[u8], words: &mut Words<'_>) -> Option<()>
     words.push_cell(bits, line.column(2))?;
     words.push_cell(bits, line.column(3))?;
     words.push_cell(kind.pos(), line.column(4))?;
-    lists::put_list(kind.list(), line.column(5), words)
+    put_list(kind.list(), line.column(5), words)
 }
 
-#[tactic(auto, using(values::proofs::Laws::writes_none, crate::proofs::Laws::row_lacks), unfolding(crate::specs::Row::variant_words))]
+#[tactic(auto, using(cells::proofs::values::Laws::writes_none, crate::proofs::Laws::row_lacks), unfolding(crate::specs::Row::variant_words))]
 fn put_variant(line: &[u8], words: &mut Words<'_>) -> Option<()>
     ensures { Writes (variant_words line.now) words.old result words.new }
 {
@@ -80,10 +80,10 @@ fn put_variant(line: &[u8], words: &mut Words<'_>) -> Option<()>
     words.push_cell(Cell::Number, line.column(1))?;
     let shape = Shape::read(line.column(2))?;
     words.push(shape.into())?;
-    lists::put_list(shape.list(), line.column(3), words)
+    put_list(shape.list(), line.column(3), words)
 }
 
-#[tactic(auto, using(values::proofs::Laws::writes_none, crate::proofs::Laws::row_lacks), unfolding(crate::specs::Row::term_words))]
+#[tactic(auto, using(cells::proofs::values::Laws::writes_none, crate::proofs::Laws::row_lacks), unfolding(crate::specs::Row::term_words))]
 fn put_term(line: &[u8], words: &mut Words<'_>) -> Option<()>
     ensures { Writes (term_words line.now) words.old result words.new }
 {
@@ -99,10 +99,10 @@ fn put_term(line: &[u8], words: &mut Words<'_>) -> Option<()>
         Cell::Bit,
     ];
     put_cells(&sorts, &line, 0, words)?;
-    lists::put_list(Some(ListOf::Numbers), line.column(8), words)
+    put_list(Some(ListOf::Numbers), line.column(8), words)
 }
 
-#[tactic(auto, using(values::proofs::Laws::writes_none, crate::proofs::Laws::row_has, crate::proofs::Laws::row_lacks), unfolding(crate::specs::Row::generated_words))]
+#[tactic(auto, using(cells::proofs::values::Laws::writes_none, crate::proofs::Laws::row_has, crate::proofs::Laws::row_lacks), unfolding(crate::specs::Row::generated_words))]
 fn put_generated(line: &[u8], words: &mut Words<'_>) -> Option<()>
     ensures { Writes (generated_words line.now) words.old result words.new }
 {
@@ -110,7 +110,7 @@ fn put_generated(line: &[u8], words: &mut Words<'_>) -> Option<()>
     words.push_cell(Cell::Number, line.column(0))
 }
 
-#[tactic(auto, using(values::proofs::Laws::writes_none, crate::proofs::Laws::row_lacks), unfolding(crate::specs::Row::binding_words))]
+#[tactic(auto, using(cells::proofs::values::Laws::writes_none, crate::proofs::Laws::row_lacks), unfolding(crate::specs::Row::binding_words))]
 fn put_binding(line: &[u8], words: &mut Words<'_>) -> Option<()>
     ensures { Writes (binding_words line.now) words.old result words.new }
 {
@@ -119,10 +119,10 @@ fn put_binding(line: &[u8], words: &mut Words<'_>) -> Option<()>
     words.push(kind.into())?;
     words.push_cell(kind.a(), line.column(1))?;
     words.push_wide(kind.b(), line.column(2))?;
-    lists::put_list(Some(ListOf::Numbers), line.column(3), words)
+    put_list(Some(ListOf::Numbers), line.column(3), words)
 }
 
-#[tactic(auto, using(values::proofs::Laws::writes_none, crate::proofs::Laws::row_lacks), unfolding(crate::specs::Row::block_words))]
+#[tactic(auto, using(cells::proofs::values::Laws::writes_none, crate::proofs::Laws::row_lacks), unfolding(crate::specs::Row::block_words))]
 fn put_block_row(line: &[u8], words: &mut Words<'_>) -> Option<()>
     ensures { Writes (block_words line.now) words.old result words.new }
 {
@@ -132,7 +132,7 @@ fn put_block_row(line: &[u8], words: &mut Words<'_>) -> Option<()>
     words.push(kind.into())?;
     words.push_cell(kind.a(), line.column(2))?;
     words.push_wide(kind.b(), line.column(3))?;
-    lists::put_list(Some(kind.list()), line.column(4), words)
+    put_list(Some(kind.list()), line.column(4), words)
 }
 
 // A text's words: its start and its end in the plan. The place is asked for beside the line, since the rows of the other tables are the

@@ -25,8 +25,8 @@ use Rattle.rows.specs.declared.kinds.TypeKind.{TypeKind}
 use Rattle.rows.specs.declared.kinds.TypeKind.TheVariants as kind
 use denote.Enum.Bare.{sameb}
 use Rattle.view.proofs.Plans.{table_of, types_count, builtin_is, type_is, term_is}
-use Rattle.variants.specs.Index.{variant_numbers}
-use Rattle.variants.proofs.Variants.{numbers_count, number_at}
+use Rattle.view.specs.Index.{variant_numbers}
+use Rattle.view.proofs.variants.Variants.{numbers_count, number_at}
 use Rattle.codegen.specs.Piece.{fix, sym_text, pos_text, type_text}
 use Rattle.codegen.specs.ReturnKind.{ReturnKind}
 use Rattle.codegen.specs.ReturnKind as ret

@@ -3,7 +3,7 @@ use Rattle.std.specs.Prelude.{ℕ, ◌≤◌, ◌≡◌, []}
 use Rattle.plan.specs.Lookup.{variants_of}
 use Rattle.view.specs.Buffers.{env_of}
 use Rattle.view.specs.declared.buffers.Plan.{Plan}
-use Rattle.variants.specs.Index.{VariantIndex}
+use Rattle.view.specs.Index.{VariantIndex}
 
 -- `index`: row n of it, cut by its own first 257 entries, has the numbers of the rows of the variants of type n
 pub record VariantsIndexed (p : Plan) : Type 0 where

@@ -15,12 +15,12 @@ ghost use Rattle.steps.specs.Rows.{check_at};
 ghost use Rattle.steps.specs.Small.{word_bound, SmallFlow};
 
 use super::matches::emit_match;
+use crate::heads::{equal_head, loop_head};
+use crate::returns::emit_return;
 use body::Body;
 use context::body_context::Nesting;
 use emits::stablemapset::insert;
-use returns::emit_return;
 use row_frames::Purpose;
-use step_parts::heads::{equal_head, loop_head};
 use text::sink::Sink;
 use view::block::ControlFlow;
 use view::buffers::Plan;

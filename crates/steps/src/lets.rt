@@ -8,9 +8,9 @@ ghost use Rattle.body.specs.Own.{WritesOwn};
 ghost use Rattle.body.specs.Words.{HasDepth, WritesWords};
 ghost use Rattle.steps.specs.Rows.{lets_at};
 
+use crate::buffer::let_head;
 use body::Body;
 use emits::stablemapset::insert;
-use step_parts::buffer::let_head;
 use text::sink::Sink;
 use view::heads::BLOCK_HEAD;
 

@@ -9,9 +9,9 @@ ghost use Rattle.body.specs.Own.{WritesOwn};
 ghost use Rattle.body.specs.Words.{HasDepth};
 ghost use Rattle.steps.specs.Rows.{check_at, one_arm_at, several_arms_at};
 
+use crate::heads::{match_head, one_arm_head};
 use body::Body;
 use row_frames::{Arms, Purpose, arms_of, bind_all, opened_by};
-use step_parts::heads::{match_head, one_arm_head};
 use text::sink::Sink;
 use view::heads::BLOCK_HEAD;
 

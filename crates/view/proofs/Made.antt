@@ -12,7 +12,7 @@ use Rattle.plan.specs.Binding as binding
 use Rattle.plan.specs.Constraint as constraint
 use Rattle.plan.specs.Row as row
 use Rattle.plan.specs.Plan.{Primitive, Enum, Struct, unit, named, tuple}
-use Rattle.values.specs.Value.{value_of}
+use Rattle.cells.specs.Value.{value_of}
 use Rattle.rows.specs.View.{nth, wide_at, fields_in, shape_of, declared_of, type_of, binding_made, binding_of, step_made, arm_made}
 use Rattle.rows.specs.Kinds.{shape_kind, shape_number, type_kind, binding_kind, binding_number, block_kind, block_number}
 use Rattle.rows.specs.declared.kinds.TypeKind.{TypeKind}

@@ -3,7 +3,7 @@ use Rattle.std.specs.Prelude.{ℕ, ◌-◌, ◌≡◌, refl, Bool, true, false, 
 use Rattle.std.proofs.Common.{eq-eqb, ne_eqb}
 use Rattle.std.proofs.Math.Option.{none, some}
 use Rattle.plan.specs.Row.{Row, step, arm, level}
-use Rattle.lists.specs.Items.{unbound}
+use Rattle.cells.specs.Items.{unbound}
 use Rattle.rows.specs.View.{nth, wide_at, step_made, arm_made, pattern_of, patterns_in, block_of}
 use Rattle.view.specs.Told.{control_flow_of, constraint_of}
 

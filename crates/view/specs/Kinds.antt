@@ -4,7 +4,7 @@ use Rattle.plan.specs.Plan.{TypeData, Primitive, Enum, Struct, unit, named, tupl
 use Rattle.plan.specs.Binding as binding
 use Rattle.plan.specs.Constraint as constraint
 use Rattle.plan.specs.Row as row
-use Rattle.values.specs.Value.{value_of}
+use Rattle.cells.specs.Value.{value_of}
 use Rattle.rows.specs.View.{nth, flagged, wide_at, fields_in, declared_of}
 use Rattle.rows.specs.declared.kinds.TypeKind.{TypeKind}
 use Rattle.rows.specs.declared.kinds.TypeKind.TheVariants as t

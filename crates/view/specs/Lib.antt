@@ -1,3 +1,4 @@
+pub mod Index
 pub mod Tables
 pub mod Told
 pub mod BlockRows

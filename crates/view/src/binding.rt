@@ -1,7 +1,7 @@
 // Bindings: `Binding` of trie_again.rs 56, without the sources, which are the row's list.
 ghost use Rattle.std.specs.Prelude.{◌≡◌, ◌+◌, ◌*◌};
 ghost use Rattle.text.specs.Wide.{whole};
-ghost use Rattle.values.specs.Value.{value_of};
+ghost use Rattle.cells.specs.Value.{value_of};
 ghost use Rattle.rows.specs.View.{nth, wide_at, binding_of};
 ghost use Rattle.view.specs.Kinds.{binding_by};
 ghost use Rattle.view.specs.Told.{binding_told};

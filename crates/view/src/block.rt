@@ -6,7 +6,7 @@ ghost use Rattle.view.specs.Told.{constraint_told, constraint_of, control_flow_t
 
 use super::binding::wide_in;
 use super::word_in;
-use lists::UNBOUND;
+use cells::lists::UNBOUND;
 use rows::kinds::BlockKind;
 use text::number::Wide;
 

@@ -20,7 +20,7 @@ use rows::kinds::BlockKind;
 use std::ops::Range;
 
 // `bytes` is the plan itself, `words` has the words of all rows, `rows` where each row's words end, `tables` where each table's rows
-// end, and `index` where the variants of each type stand (crate `variants`); before they are indexed it is empty. A plan and a sink stay two
+// end, and `index` where the variants of each type stand (`variants`); before they are indexed it is empty. A plan and a sink stay two
 // parameters of those who write: a plan is only read, and of one value each contract would have to say that the plan in it stays.
 #[derive(Clone, Copy)]
 pub struct Plan<'a> {

@@ -9,6 +9,7 @@ pub mod buffers;
 pub mod environment;
 pub mod heads;
 pub mod tables;
+pub mod variants;
 
 ghost use Rattle.std.specs.Prelude.{◌≡◌, ◌+◌, ◌<◌, get_or, drop};
 ghost use Rattle.rows.specs.View.{nth};

@@ -1,8 +1,8 @@
 use Prim.Native.Nat.{◌+◌}
 use native.Mathlib.Omega.{arith}
 use mathlib.Core.Path.{◌≡◌}
-use Rattle.values.proofs.Laws.{writes_then, writes_stop, writes_nothing}
-use Rattle.values.specs.declared.Cell.TheVariants.{Unused}
+use Rattle.cells.proofs.values.Laws.{writes_then, writes_stop, writes_nothing}
+use Rattle.cells.specs.declared.values.Cell.TheVariants.{Unused}
 use Rattle.rows.proofs.Laws.{cells_more, cells_end}
 use Rattle.rows.proofs.put_cells.Goals as goal
 

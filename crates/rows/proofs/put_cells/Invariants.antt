@@ -3,8 +3,8 @@ use lib.Dec.{eqb}
 use lib.ListN.{drop}
 use Rattle.std.specs.Prelude.{Option}
 use Rattle.text.specs.Split.{split}
-use Rattle.values.specs.declared.Words.{Words}
-use Rattle.values.specs.Writes.{Writes}
+use Rattle.cells.specs.declared.values.Words.{Words}
+use Rattle.cells.specs.Writes.{Writes}
 use Rattle.rows.specs.Cells.{cells}
 use Rattle.rows.proofs.put_cells.Given as goal
 

@@ -1,8 +1,8 @@
-use Rattle.values.proofs.Laws.{writes_then, writes_stop}
+use Rattle.cells.proofs.values.Laws.{writes_then, writes_stop}
 use lib.Dec.{eqb}
 use Rattle.text.specs.Split.{split}
 use Rattle.plan.specs.Layout.{at}
-use Rattle.lists.specs.Items.{list_words}
+use Rattle.cells.specs.Items.{list_words}
 use Rattle.rows.specs.Row.{term_words}
 use Rattle.rows.specs.Cells.{cells}
 use Rattle.rows.proofs.Laws.{row_has, joined, before_none}

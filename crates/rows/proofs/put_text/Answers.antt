@@ -2,8 +2,8 @@ use Prim.Native.Nat.{◌+◌}
 use mathlib.Core.List.{[], ◌∷◌}
 use mathlib.Core.Option.{some}
 use lib.ListN.{length}
-use Rattle.values.specs.Words.{◌⧺◌}
-use Rattle.values.proofs.Laws.{◌⟫◌, writes_stop}
+use Rattle.cells.specs.Words.{◌⧺◌}
+use Rattle.cells.proofs.values.Laws.{◌⟫◌, writes_stop}
 use Rattle.rows.proofs.put_text.Goals as goal
 
 pub returns-in_err-push : goal.returns-in_err-push

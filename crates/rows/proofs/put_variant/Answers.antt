@@ -1,4 +1,4 @@
-use Rattle.values.proofs.Laws.{◌⟫◌, writes_stop, writes_none, word_none, kind_read}
+use Rattle.cells.proofs.values.Laws.{◌⟫◌, writes_stop, writes_none, word_none, kind_read}
 use Rattle.rows.specs.Row.{variant_words}
 use Rattle.rows.proofs.Laws.{row_has}
 use Rattle.rows.proofs.put_variant.Goals as goal

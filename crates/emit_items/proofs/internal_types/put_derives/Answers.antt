@@ -2,7 +2,7 @@ use Rattle.std.specs.Prelude.{refl, [], ◌∷◌, cond}
 use Rattle.text.specs.Sink.{spaces}
 use Rattle.codegen.specs.Piece.{fix, break, render, bytes, indent}
 use Rattle.emits.specs.Sinks.{Shows, shows_none, shows_fix, shows_text, ◌⟫ₛ◌}
-use Rattle.ctx_trait.specs.Shown.{shows_line}
+use Rattle.emit_items.specs.Shown.{shows_line}
 use Rattle.emit_items.proofs.internal_types.put_derives.Goals as goal
 use Rattle.emit_items.proofs.internal_types.put_derives.Goals.{then-copy, else-copy, then-not-nodebug, else-not-nodebug}
 

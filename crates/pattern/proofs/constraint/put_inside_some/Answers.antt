@@ -5,7 +5,7 @@ use Rattle.codegen.specs.Pattern.{inside_some}
 use Rattle.emits.specs.Marks.{set_of}
 use Rattle.emits.specs.Sinks.{shows_none, shows_fix}
 use Rattle.emits.specs.Runs.{emits_say, ◌⟫◌}
-use Rattle.consts.specs.EmitsLaws.{shows_new_put}
+use Rattle.expr_parts.specs.EmitsLaws.{shows_new_put}
 use Rattle.expr_parts.proofs.Laws.{emits_nothing}
 use Rattle.pattern.proofs.Laws.{patterns_first, patterns_none, emits_given}
 use Rattle.pattern.proofs.constraint.put_inside_some.Goals as goal

@@ -5,7 +5,7 @@ use Rattle.view.specs.Buffers.{env_of}
 use Rattle.sema.specs.Fields.{fields_read}
 use Rattle.emits.specs.Sinks.{shows_none, shows_piece, shows_fix}
 use Rattle.emits.specs.Runs.{emits_say, ◌⟫◌}
-use Rattle.consts.specs.EmitsLaws.{shows_new_put, shows_break_put}
+use Rattle.expr_parts.specs.EmitsLaws.{shows_new_put, shows_break_put}
 use Rattle.expr_parts.proofs.Laws.{odd_head, emits_nothing}
 use Rattle.pattern.proofs.fields.field_pattern.Goals as goal
 

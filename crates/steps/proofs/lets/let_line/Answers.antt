@@ -5,7 +5,7 @@ use Rattle.codegen.specs.Piece.{odd_piece, odd_pieces}
 use Rattle.emits.specs.Sinks.{shows_none, shows_fix}
 use Rattle.emits.specs.Runs.{emits_say, ◌⟫◌}
 use Rattle.body.specs.Told.{env_in, bindings_of}
-use Rattle.step_parts.proofs.HeadLaws.{odd_let}
+use Rattle.steps.proofs.HeadLaws.{odd_let}
 use Rattle.steps.proofs.lets.let_line.Goals as goal
 
 pub returns : goal.returns

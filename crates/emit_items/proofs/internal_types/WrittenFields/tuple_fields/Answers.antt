@@ -1,6 +1,6 @@
 use native.Mathlib.Omega.{arith}
 use Rattle.emits.specs.Sinks.{left_all, left_more, left_end}
-use Rattle.ctx_trait.proofs.Lists.{join_is}
+use Rattle.emit_items.proofs.ctx_trait.Lists.{join_is}
 use Rattle.emit_items.proofs.Lists.{tuple_count, tuple_next, tuple_end}
 use Rattle.emit_items.proofs.internal_types.WrittenFields.tuple_fields.Goals as goal
 

@@ -4,7 +4,7 @@ use Rattle.view.specs.Buffers.{env_of}
 use Rattle.codegen.specs.Items.{join, tuple_fields}
 use Rattle.emits.specs.Sinks.{Left}
 use Rattle.sema.specs.Fields.{fields_read}
-use Rattle.ctx_trait.specs.Parts.{joined}
+use Rattle.emit_items.specs.TraitParts.{joined}
 use Rattle.emit_items.proofs.internal_types.WrittenFields.tuple_fields.Given as goal
 
 abbrev pub invariant-loop-i : goal.invariant-loop-i

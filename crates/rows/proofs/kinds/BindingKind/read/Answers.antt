@@ -1,7 +1,7 @@
 use mathlib.Core.Path.{◌≡◌, sym, ◌∙◌}
 use Rattle.text.specs.Split.{split}
 use Rattle.tokens.specs.Token.{told, place}
-use Rattle.values.specs.Value.{kind_word}
+use Rattle.cells.specs.Value.{kind_word}
 use Rattle.rows.specs.Row.{binding_kinds}
 use Rattle.rows.proofs.Laws.{place_none, place_here, place_past}
 use Rattle.rows.proofs.kinds.BindingKind.read.Goals as goal

@@ -1,5 +1,0 @@
-use Rattle.lent_context.proofs.BlockLaws.{one_state}
-use Rattle.lent_context.proofs.block.both_ways.Goals as goal
-
-pub returns : goal.returns
-returns c = one_state c.block_steps.ensures c.block_steps_by_value.ensures

@@ -1,6 +1,0 @@
-use Rattle.codegen.specs.ReturnKind.{by_return_kind}
-use Rattle.returns.proofs.put_limit.Goals as goal
-
-pub returns-in-Iterator : goal.returns-in-Iterator
-unfolding by_return_kind
-returns-in-Iterator c = rw c.in-Iterator.is c.put_overflow.ensures

@@ -1,5 +1,0 @@
-use Rattle.returns.proofs.ReturnLaws.{lines_limit}
-use Rattle.returns.proofs.put_overflow.Goals as goal
-
-pub returns : goal.returns
-returns c = λ env i fs q s. lines_limit s c.put_indent.ensures c.put_bytes.ensures c.put_iter_overflow_action.ensures c.put_bytes-2.ensures c.put_byte.ensures

@@ -1,5 +1,0 @@
-use Rattle.row_faults.proofs.Laws.{ready_fresh}
-use Rattle.row_faults.proofs.row.name_patterns.Goals as goal
-
-pub invariant_of-names : goal.invariant_of-names
-invariant_of-names c = record { ready = ready_fresh (c.raise.ensures c.args.names.now.ready.latest) }

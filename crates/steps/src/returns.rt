@@ -1,0 +1,123 @@
+// A return, with its rule, logging and limit: codegen.rs 816.
+ghost use Rattle.std.specs.Prelude.{ℕ, [], List};
+ghost use Rattle.std.proofs.Math.Option.{some, none};
+ghost use Rattle.text.specs.Writes.{Writes};
+ghost use Rattle.plan.specs.Plan.{Environment};
+ghost use Rattle.codegen.specs.Block.{Frame, log_lines, return_line, returning};
+ghost use Rattle.codegen.specs.ReturnKind.{by_return_kind};
+ghost use Rattle.codegen.specs.Writer.{Marks};
+ghost use Rattle.emits.specs.Marks.{set_of};
+ghost use Rattle.sema.specs.Signature.{return_kind_told};
+ghost use Rattle.body.specs.Told.{env_in, body_told, StandsAt, StandsIn};
+ghost use Rattle.body.specs.Lines.{LinesLead};
+ghost use Rattle.body.specs.Own.{WritesOwn};
+ghost use Rattle.body.specs.Words.{HasDepth, WritesWords};
+ghost use Rattle.steps.specs.ReturnLines.{rule_lines, overflow_lines};
+
+use body::Body;
+use context::block::put_iter_overflow_action;
+use context::body_context::Nesting;
+use emits::stablemapset::contains;
+use expr_parts::put_clone;
+use sema::signature::ReturnKind;
+use sema::texts::{Text, put_quoted_text, put_text};
+use text::sink::Sink;
+
+// Where the rule stands.
+fn put_rule(w: &mut Sink<'_>, body: &Body<'_>, depth: usize, p: usize)
+    ensures { (i : ℕ) (fs : List Frame) (q : Marks) → StandsAt depth fs → LinesLead (env_in body.now) (some i) fs (λ x. rule_lines p) (λ x. x) w.old q w.new q }
+{
+    w.put_indent(depth);
+    w.put_bytes(b"// Rule at ");
+    put_text(w, body.bindings.plan, Text::Pos, p);
+    w.put_bytes(b".");
+    w.put_byte(b'\n');
+}
+
+// The logging of the rule, if it is asked for.
+#[tactic(auto, using(body::specs::Lines::lines_none), unfolding(codegen::specs::Block::log_lines))]
+fn put_log(w: &mut Sink<'_>, body: &Body<'_>, depth: usize, p: usize)
+    ensures { (i : ℕ) (fs : List Frame) (q : Marks) → StandsAt depth fs → LinesLead (env_in body.now) (some i) fs (λ x. log_lines (body_told body.now) p) (λ x. x) w.old q w.new q }
+{
+    if body.log {
+        w.put_indent(depth);
+        w.put_bytes(b"log::debug!(\"ISLE {} {}\", ");
+        put_quoted_text(w, body.bindings.plan, Text::Sym, body.term_name);
+        w.put_bytes(b", ");
+        put_quoted_text(w, body.bindings.plan, Text::Pos, p);
+        w.put_bytes(b");");
+        w.put_byte(b'\n');
+    }
+}
+
+// One text where many values are returned, another where one is.
+#[tactic(auto, unfolding(codegen::specs::ReturnKind::by_return_kind))]
+fn put_by_kind(w: &mut Sink<'_>, kind: ReturnKind, many: &[u8], one: &[u8])
+    ensures { Writes (by_return_kind (return_kind_told kind) many.now one.now one.now) w.old w.new }
+{
+    match kind {
+        ReturnKind::Iterator => w.put_bytes(many),
+        ReturnKind::Option | ReturnKind::Plain => w.put_bytes(one),
+    }
+}
+
+// The result is asked about after it is written: one that is a reference is cloned.
+fn return_line(
+    w: &mut Sink<'_>,
+    body: &Body<'_>,
+    refs: &mut [bool],
+    bound: &[bool],
+    depth: usize,
+    r: usize,
+)
+    ensures { let b = body.now in WritesWords (HasDepth depth r) b depth (return_line (body_told b) (set_of bound.now) r) w.old refs.old w.new refs.new }
+{
+    put_by_kind(w, body.ret_kind, b"returns.extend(Some(", b"return ");
+    body.emit_expr(w, refs, bound, depth, r);
+    put_clone(w, false, contains(refs, r));
+    put_by_kind(w, body.ret_kind, b"));", b";");
+}
+
+// codegen.rs 891: inside a closure the function around it has to return too.
+fn put_overflow(w: &mut Sink<'_>, nesting: Nesting)
+    ensures { (env : Environment) (i : ℕ) (fs : List Frame) (q : Marks) → StandsIn nesting fs → LinesLead env (some i) fs (λ x. overflow_lines) (λ x. x) w.old q w.new q }
+{
+    w.put_indent(nesting.depth);
+    w.put_bytes(b"if returns.len() >= MAX_ISLE_RETURNS { ");
+    put_iter_overflow_action(w, nesting.in_closure);
+    w.put_bytes(b" }");
+    w.put_byte(b'\n');
+}
+
+// Where many values are returned, their number has a limit.
+#[tactic(auto, using(body::specs::Lines::lines_none), unfolding(codegen::specs::ReturnKind::by_return_kind))]
+fn put_limit(w: &mut Sink<'_>, kind: ReturnKind, nesting: Nesting)
+    ensures { (env : Environment) (i : ℕ) (fs : List Frame) (q : Marks) → StandsIn nesting fs → LinesLead env (some i) fs (λ x. by_return_kind (return_kind_told kind) overflow_lines [] []) (λ x. x) w.old q w.new q }
+{
+    match kind {
+        ReturnKind::Iterator => put_overflow(w, nesting),
+        ReturnKind::Option | ReturnKind::Plain => {}
+    }
+}
+
+// The return of r, by the rule at p. That its line is not too deep is a premise and no type, since a type would ask it of callers that need
+// no more than the marks.
+pub fn emit_return(
+    w: &mut Sink<'_>,
+    body: &Body<'_>,
+    refs: &mut [bool],
+    bound: &[bool],
+    nesting: Nesting,
+    r: usize,
+    p: usize,
+)
+    ensures { WritesOwn (HasDepth nesting.depth r) body.now (StandsIn nesting) (λ q. returning (body_told body.now) (set_of bound.now) r p q) w.old refs.old none w.new refs.new bound.now }
+{
+    let depth = nesting.depth;
+    put_rule(w, body, depth, p);
+    put_log(w, body, depth, p);
+    w.put_indent(depth);
+    return_line(w, body, refs, bound, depth, r);
+    w.put_byte(b'\n');
+    put_limit(w, body.ret_kind, nesting);
+}

@@ -1,4 +1,0 @@
-pub mod Words
-pub mod Value
-pub mod Cell
-pub mod Writes
