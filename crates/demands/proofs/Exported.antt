@@ -1,4 +1,4 @@
--- The three demands, of the C functions `rizhavel_whole`, `rizhavel_terms` and `rizhavel_items` (emitter_c/src/lib.rt). Their contracts
+-- The three demands, of the C functions `rizhavel_whole`, `rizhavel_terms` and `rizhavel_items` (c_api/src/entries.rt). Their contracts
 -- say `Exports (answer plan (length before)) n before after told told'`, or the same with `terms_answer` or `items_answer`, of the number n
 -- that is returned, the buffer before and after, and the lent slice of numbers before and after, however short. Assumes nothing.
 use Rattle.std.specs.Prelude.{ℕ, zero, suc, ◌≤◌, ◌≡◌, refl, Bool, true, false, cond, List, [], ◌∷◌, ◌<◌, leb, length, get_or, take, Ok, Err}
@@ -50,7 +50,7 @@ set_pair_others (a ∷ b ∷ told) l k (suc (suc i)) h = refl
 -- WHATEVER HOLDS OF THE ENTRY'S CALLS HOLDS OF THE C FUNCTION'S
 
 -- each number from 1 to 11 is a refusal's
-numbered : (n : ℕ) → n < 11 → (r : Refusal) × (number r ≡ suc n)
+pub numbered : (n : ℕ) → n < 11 → (r : Refusal) × (number r ≡ suc n)
 numbered zero h = (TooLong, refl)
 numbered (suc zero) h = (Byte, refl)
 numbered (suc (suc zero)) h = (Layout, refl)

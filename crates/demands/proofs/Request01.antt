@@ -1,22 +1,27 @@
 -- Req 01, of the entry `schedule` (schedule_check/src/lib.rt), whose contract says `Answers (sheet_answer plan (length before)) r before after` for
--- any plan and any buffer. Assumes nothing.
-use Rattle.std.specs.Prelude.{zero, ℕ, suc, ◌≤◌, ◌≡◌, Bool, List, Ok, Err}
+-- any plan and any buffer; and of the C function `rizhavel_schedule` (c_api/src/entries.rt), whose contract says the like by `Exports`. Assumes
+-- nothing.
+use Rattle.std.specs.Prelude.{zero, ℕ, suc, ◌≤◌, ◌≡◌, Bool, List, [], ◌∷◌, get_or, Ok, Err}
 use Rattle.std.proofs.Math.Path.{refl}
-use Rattle.std.proofs.Common.{sym, arith, leb-true}
+use Rattle.std.proofs.Common.{sym, ◌∙◌, arith, leb-true}
 use Rattle.std.proofs.Math.Bool.{true, false, cond}
 use Rattle.std.proofs.Math.Dec.{leb}
 use Rattle.std.proofs.Math.ListN.{length}
+use Rattle.std.proofs.Math.Seq.{length-sets}
+use Rattle.std.proofs.lemmas.List.Edits.{sets}
 use Rattle.plan.specs.Plan.{Plan}
-use Rattle.plan.specs.Refusal.{Outcome, accepted, outcome}
-use Rattle.codegen.specs.Answer.{refuse}
+use Rattle.plan.specs.Refusal.{Outcome, refused, accepted, outcome}
+use Rattle.codegen.specs.Answer.{Answer, refuse}
 use Rattle.codegen.specs.AnswerLaws.{Judged, turned_away, taken, judged_outcome}
 use Rattle.splitting.specs.Accepted.{accepted_read}
 use Rattle.refusal.specs.Number.{number}
+use Rattle.refusal.specs.declared.Refusal.{Refusal}
 use Rattle.refusal.specs.NumberLaws.{some_number}
 use Rattle.schedule_rules.specs.Sheet.{sheet, sheet_answer_of, sheet_answer}
-use Rattle.schedule_check.specs.Answered.{Checked, Answers}
+use Rattle.schedule_check.specs.Answered.{Checked, Answers, Exports}
 use Rattle.demands.specs.Checks.{checks, first_failing, all_pass, first_to_fail, number_given, first_check}
-use Rattle.demands.specs.Request01.{SheetOrRefusal, refusal, faults}
+use Rattle.demands.specs.Request01.{SheetOrRefusal, refusal, faults, SheetTold}
+use Rattle.demands.proofs.Exported.{numbered}
 
 module _ (plan before : List ℕ) where
   abbrev list : List Bool
@@ -44,3 +49,55 @@ module _ (plan before : List ℕ) where
       by_outcome : {o : Outcome} → Judged o → outcome plan ≡ o → first_failing 0 list ≡ number_given sheet (length before) o → Answers (sheet_answer_of (length before) o) r before after → SheetOrRefusal plan before r after
       by_outcome (turned_away n h g) e w q = refusing n (omega arith) w h r q
       by_outcome (taken p) e w q = by_room p e (leb (length (sheet p)) (length before)) refl w q
+
+-- THE C FUNCTION
+
+set_first : (told : List ℕ) (l : ℕ) → 1 ≤ length told → get_or (sets told 0 (l ∷ [])) 0 0 ≡ l
+set_first [] l h = absurd (omega arith)
+set_first (a ∷ told) l h = refl
+
+set_others : (told : List ℕ) (l i : ℕ) → 1 ≤ i → get_or (sets told 0 (l ∷ [])) i 0 ≡ get_or told i 0
+set_others [] l i h = refl
+set_others (a ∷ told) l zero h = absurd (omega arith)
+set_others (a ∷ told) l (suc i) h = refl
+
+-- no number is larger than 11, and a refusal has length 0
+record Few (a : Answer) : Type 0 where
+  most : a.number ≤ 11
+  nothing : 1 ≤ a.number → a.length ≡ 0
+
+few : (room : ℕ) (plan : List ℕ) → Few (sheet_answer_of room (outcome plan))
+unfolding sheet_answer_of
+few room plan = by_outcome (judged_outcome plan)
+  where
+    by_room : (p : Plan) (b : Bool) → Few (cond b (record { number = 0; length = length (sheet p); count = 0; text = sheet p }) (refuse 11))
+    by_room p true = record { most = omega arith; nothing = λ h. absurd (omega arith) }
+    by_room p false = record { most = omega arith; nothing = λ h. refl }
+
+    by_outcome : {o : Outcome} → Judged o → Few (sheet_answer_of room o)
+    by_outcome (turned_away n h g) = record { most = omega arith; nothing = λ h. refl }
+    by_outcome (taken p) = by_room p (leb (length (sheet p)) room)
+
+module _ (plan before : List ℕ) {n : ℕ} {after told told' : List ℕ} (e : Exports (sheet_answer plan (length before)) n before after told told') where
+  abbrev given : Answer
+  given = sheet_answer plan (length before)
+
+  tells : (r : Checked) → Answers given r before after → SheetTold plan before after n told told'
+  tells r q = record {
+    result = r;
+    holds = request_01 plan before q;
+    number = e.numbered ∙ sym q.number;
+    entry_0 = λ g. rw e.values (set_first told given.length g ∙ sym q.length);
+    others = λ i g. rw e.values (set_others told given.length i g);
+    entries = rw e.values (length-sets told 0 (given.length ∷ []));
+  }
+
+  by_number : Few given → (m : ℕ) → m ≡ given.number → SheetTold plan before after n told told'
+  by_number f zero z = tells (Ok given.length) (record { number = z; length = refl; bytes = e.bytes })
+  by_number f (suc m) z =
+      let r : (r : Refusal) × (number r ≡ suc m) = numbered m (let h = f.most in omega (arith, h, z)) in
+      tells (Err r.0) (record { number = r.1 ∙ z; length = sym (f.nothing (omega (arith, z))); bytes = e.bytes })
+
+  pub exported_request_01 : SheetTold plan before after n told told'
+  unfolding sheet_answer
+  exported_request_01 = by_number (few (length before) plan) n e.numbered
