@@ -2,3 +2,4 @@ pub mod Demand1
 pub mod Demand2Items
 pub mod Exported
 pub mod Request01
+pub mod Request02

@@ -7,3 +7,4 @@ pub mod Demand2Boundaries
 pub mod Demand3
 pub mod Exported
 pub mod Request01
+pub mod Request02

@@ -88,9 +88,14 @@ more_places b n k l h g =
     let e : b ^ 1 ≡ b = rw (pow-suc b 0, pow-zero b) (omega arith) in
     places b 1 n k l (rw e h) g
 
-pub decimal_one : (n : ℕ) → n < 10 → decimal n ≡ digit n ∷ []
+-- a decimal digit, which is a remainder by ten
+pub decimal_digit : (n : ℕ) → digit (n % 10) ≡ 48 + n % 10
+decimal_digit n = rw (lt-ltb (n % 10) 10 (omega arith)) (omega arith)
+
+-- a single one, as a remainder too
+pub decimal_one : (n : ℕ) → n < 10 → decimal n ≡ digit (n % 10) ∷ []
 unfolding decimal
-decimal_one n h = digits_one 10 n h
+decimal_one n h = let e : n % 10 ≡ n = omega arith in rw e (digits_one 10 n h)
 
 pub decimal_more : (n : ℕ) → 10 ≤ n → decimal n ≡ decimal (n / 10) ++ (digit (n % 10) ∷ [])
 unfolding decimal

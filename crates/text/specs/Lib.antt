@@ -1,4 +1,5 @@
 pub mod Codes
+pub mod Decimal
 pub mod Digits
 pub mod DigitsLaws
 pub mod Filled

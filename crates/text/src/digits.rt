@@ -1,4 +1,5 @@
-// The digits of numbers, as Rust's `{}` and `{:x}` write them: filled into an array from its end, the last one first, and put as one text.
+// The decimal digits of numbers of 64 bits and the hexadecimal ones of 128, as Rust's `{}` and `{:x}` write them: filled into an array from its
+// end, the last one first, and put as one text.
 // A loop keeps the place of the next one in a local: as a field, which a byte that is stored might change, it cost a tenth more. So did a `for`
 // over the places in reverse (`(first - K..first).rev()`); after an adapter of `iter_mut`, as its `rev`, nothing is known of the bytes.
 ghost use Rattle.std.specs.Prelude.{◌≡◌, [], suc, ◌-◌, ◌/◌, ◌^◌, ◌≤◌, ◌<◌, ◌++◌, length};
@@ -12,7 +13,7 @@ fn from_digit(d: u64) -> u8
     b"0123456789abcdef"[d as usize]
 }
 
-// An array whose bytes from `first` on are digits. No number of 128 bits has more than 39 of them.
+// An array whose bytes from `first` on are digits. A hexadecimal number of 128 bits has 32 of them.
 #[derive(Drop)]
 pub struct Digits {
     text: [u8; 40],

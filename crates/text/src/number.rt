@@ -1,9 +1,10 @@
 // Numbers put into the sink as digits, as Rust's `{}` and `{:x}` write them.
-ghost use Rattle.std.specs.Prelude.{◌≡◌, ◌+◌, ◌*◌, ◌^◌, ◌<◌};
+ghost use Rattle.std.specs.Prelude.{◌≡◌, eqb};
 ghost use Rattle.text.specs.Writes.{Writes};
 ghost use Rattle.text.specs.Digits.{decimal, hexadecimal, signed};
-ghost use Rattle.text.specs.Wide.{whole, Grouped};
+ghost use Rattle.text.specs.Wide.{whole};
 
+use super::decimal::find_decimal;
 use super::digits::Digits;
 use super::sink::Sink;
 
@@ -23,59 +24,11 @@ impl From<u64> for Wide {
     }
 }
 
-// A number of 128 bits in groups of eight decimal digits, the last one in `low`.
-#[derive(Clone, Copy)]
-struct Groups {
-    top: u64,
-    high: u64,
-    middle: u64,
-    low: u64,
-}
-
-// A number of 128 bits in groups of eight decimal digits. The powers of 2^32 are
-//                      42,94967296
-//             1844,67440737,09551616
-//     79228,16251426,43375935,43950336
-// so of the number d * 2^96 + c * 2^64 + b * 2^32 + a each part adds a multiple to each group. What a group has above 10^8 goes
-// to the next one.
-fn low_group(a: u64, b: u64, c: u64, d: u64) -> u64
-    requires { (a < 2 ^ 32) × (b < 2 ^ 32) × (c < 2 ^ 32) × (d < 2 ^ 32) }
-    ensures { result ≡ a + b * 94967296 + c * 9551616 + d * 43950336 }
-{
-    a + b * 94967296 + c * 9551616 + d * 43950336
-}
-
-fn middle_group(above: u64, b: u64, c: u64, d: u64) -> u64
-    requires { (above < 2 ^ 38) × (b < 2 ^ 32) × (c < 2 ^ 32) × (d < 2 ^ 32) }
-    ensures { result ≡ above + (b * 42 + c * 67440737 + d * 43375935) }
-{
-    above + (b * 42 + c * 67440737 + d * 43375935)
-}
-
-fn high_group(above: u64, c: u64, d: u64) -> u64
-    requires { (above < 2 ^ 38) × (c < 2 ^ 32) × (d < 2 ^ 32) }
-    ensures { result ≡ above + (c * 1844 + d * 16251426) }
-{
-    above + (c * 1844 + d * 16251426)
-}
-
 impl Wide {
-    fn groups(self) -> Groups
-        ensures { Grouped (whole self) result.top result.high result.middle result.low }
+    pub(super) fn is_zero(self) -> bool
+        ensures { result ≡ eqb (whole self) 0 }
     {
-        let d = self.high / 4294967296;
-        let c = self.high % 4294967296;
-        let b = self.low / 4294967296;
-        let a = self.low % 4294967296;
-        let w = low_group(a, b, c, d);
-        let x = middle_group(w / 100000000, b, c, d);
-        let y = high_group(x / 100000000, c, d);
-        Groups {
-            top: y / 100000000 + d * 79228,
-            high: y % 100000000,
-            middle: x % 100000000,
-            low: w % 100000000,
-        }
+        self.high == 0 && self.low == 0
     }
 }
 
@@ -105,20 +58,8 @@ impl Sink<'_> {
     pub fn put_decimal_wide(&mut self, n: Wide)
         ensures { Writes (decimal (whole n)) self.old self.new }
     {
-        if n.high == 0 {
-            return self.put_decimal(n.low);
-        }
-        let g = n.groups();
-        let mut digits = Digits::new();
-        digits.fill_padded::<10, 8>(g.low);
-        digits.fill_padded::<10, 8>(g.middle);
-        if g.top == 0 {
-            digits.fill_decimal(g.high);
-        } else {
-            digits.fill_padded::<10, 8>(g.high);
-            digits.fill_decimal(g.top);
-        }
-        self.put_bytes(digits.as_bytes());
+        let found = find_decimal(n);
+        self.put_bytes(&found.digits[found.first..]);
     }
 
     // The two's complement n of 128 bits as a signed decimal.
