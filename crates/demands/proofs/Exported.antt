@@ -1,10 +1,9 @@
 -- The three demands, of the C functions `rizhavel_whole`, `rizhavel_terms` and `rizhavel_items` (c_api/src/entries.rt). Their contracts
 -- say `Exports (answer plan (length before)) n before after told told'`, or the same with `terms_answer` or `items_answer`, of the number n
 -- that is returned, the buffer before and after, and the lent slice of numbers before and after, however short. Assumes nothing.
-use Rattle.std.specs.Prelude.{ℕ, zero, suc, ◌≤◌, ◌≡◌, refl, Bool, true, false, cond, List, [], ◌∷◌, ◌<◌, leb, length, get_or, take, Ok, Err}
+use Rattle.std.specs.Prelude.{ℕ, zero, suc, ◌≤◌, ◌≡◌, refl, Bool, true, false, cond, List, [], ◌∷◌, ◌<◌, leb, length, take, Ok, Err}
 use Rattle.std.proofs.Common.{sym, ◌∙◌, arith, ne_eqb}
 use Rattle.std.proofs.Math.Option.{some}
-use Rattle.std.proofs.lemmas.List.Edits.{sets}
 use Rattle.std.proofs.Math.Seq.{length-sets}
 use Rattle.plan.specs.Plan.{Plan}
 use Rattle.plan.specs.Refusal.{Outcome, refused, accepted, outcome}
@@ -19,6 +18,7 @@ use Rattle.refusal.specs.Number.{number}
 use Rattle.refusal.specs.declared.Refusal.{Refusal}
 use Rattle.refusal.specs.declared.Refusal.TheVariants.{TooLong, Byte, Layout, Most, Exists, Lengths, Lower, Returns, Armless, Loop, Room}
 use Rattle.demands.specs.Exported.{Told, Where}
+use Rattle.demands.proofs.SetLaws.{sets_at, sets_after}
 use Rattle.emitter.specs.Answered.{Emitted, Answers, Exports, items_answer, gives}
 use Rattle.demands.specs.Demand1.{TextOrRefusal, items_text}
 use Rattle.demands.proofs.Demand1.{demand_1, demand_1_terms, demand_1_items}
@@ -27,25 +27,6 @@ use Rattle.demands.specs.Demand2Items.{NoLiterals}
 use Rattle.demands.proofs.Demand2Items.{demand_2_items, demand_2_read_back_items}
 use Rattle.demands.specs.Demand2Boundaries.{Boundaries, demand_2_boundaries, demand_2_boundaries_terms}
 use Rattle.demands.specs.Demand3.{Closures, demand_3, demand_3_terms, demand_3_bytes, demand_3_bytes_terms, demand_3_closures, demand_3_closures_terms}
-
--- THE SLICE
-
-set_pair_0 : (told : List ℕ) (l k : ℕ) → 1 ≤ length told → get_or (sets told 0 (l ∷ k ∷ [])) 0 0 ≡ l
-set_pair_0 [] l k h = absurd (omega arith)
-set_pair_0 (a ∷ told) l k h = refl
-
-set_pair_1 : (told : List ℕ) (l k : ℕ) → 2 ≤ length told → get_or (sets told 0 (l ∷ k ∷ [])) 1 0 ≡ k
-set_pair_1 [] l k h = absurd (omega arith)
-set_pair_1 (a ∷ []) l k h = absurd (omega arith)
-set_pair_1 (a ∷ b ∷ told) l k h = refl
-
-set_pair_others : (told : List ℕ) (l k i : ℕ) → 2 ≤ i → get_or (sets told 0 (l ∷ k ∷ [])) i 0 ≡ get_or told i 0
-set_pair_others [] l k i h = refl
-set_pair_others (a ∷ []) l k zero h = absurd (omega arith)
-set_pair_others (a ∷ []) l k (suc i) h = refl
-set_pair_others (a ∷ b ∷ told) l k zero h = absurd (omega arith)
-set_pair_others (a ∷ b ∷ told) l k (suc zero) h = absurd (omega arith)
-set_pair_others (a ∷ b ∷ told) l k (suc (suc i)) h = refl
 
 -- WHATEVER HOLDS OF THE ENTRY'S CALLS HOLDS OF THE C FUNCTION'S
 
@@ -71,9 +52,9 @@ module _ (a : Answer) (nothing : 1 ≤ a.number → (a.length ≡ 0) × (a.count
     holds = h r q;
     number = e.numbered ∙ sym q.number;
     text = q.written ∙ rw e.numbered refl;
-    entry_0 = λ g. rw e.values (set_pair_0 told a.length a.count g ∙ sym q.length);
-    entry_1 = λ g. rw e.values (set_pair_1 told a.length a.count g ∙ sym q.count);
-    others = λ i g. rw e.values (set_pair_others told a.length a.count i g);
+    entry_0 = λ g. rw e.values (sets_at told (a.length ∷ a.count ∷ []) 0 0 g (let b : 0 < 2 = omega arith in b) ∙ sym q.length);
+    entry_1 = λ g. rw e.values (sets_at told (a.length ∷ a.count ∷ []) 0 1 g (let b : 1 < 2 = omega arith in b) ∙ sym q.count);
+    others = λ i g. rw e.values (sets_after told (a.length ∷ a.count ∷ []) 0 i g);
     entries = rw e.values (length-sets told 0 (a.length ∷ a.count ∷ []));
   }
 
@@ -88,7 +69,7 @@ module _ (a : Answer) (nothing : 1 ≤ a.number → (a.length ≡ 0) × (a.count
           tells (Err r.0) (record { number = r.1 ∙ z; length = sym g.0; count = sym g.1; written = rw (ne_eqb a.number 0 (λ y. absurd (omega arith))) refl; bytes = e.bytes }) e
 
 -- no number is larger
-most_of : (form : Plan → List ℕ) (room : ℕ) (plan : List ℕ) → (answer_of form room (outcome plan)).number ≤ 11
+pub most_of : (form : Plan → List ℕ) (room : ℕ) (plan : List ℕ) → (answer_of form room (outcome plan)).number ≤ 11
 unfolding answer_of
 most_of form room plan = by_outcome (judged_outcome plan)
   where
@@ -101,7 +82,7 @@ most_of form room plan = by_outcome (judged_outcome plan)
     by_outcome (taken p) = by_room (leb (length (form p)) room) _ refl
 
 -- a refusal has length 0 and count 0
-nothing_given : (form : Plan → List ℕ) (room : ℕ) (o : Outcome) → 1 ≤ (answer_of form room o).number → ((answer_of form room o).length ≡ 0) × ((answer_of form room o).count ≡ 0)
+pub nothing_given : (form : Plan → List ℕ) (room : ℕ) (o : Outcome) → 1 ≤ (answer_of form room o).number → ((answer_of form room o).length ≡ 0) × ((answer_of form room o).count ≡ 0)
 unfolding answer_of
 nothing_given form room (refused n) h = (refl, refl)
 nothing_given form room (accepted p) h = by_room (leb (length (form p)) room) _ refl h

@@ -1,17 +1,17 @@
 -- Req 01, of the entry `schedule` (schedule_check/src/lib.rt), whose contract says `Answers (sheet_answer plan (length before)) r before after` for
 -- any plan and any buffer; and of the C function `rizhavel_schedule` (c_api/src/entries.rt), whose contract says the like by `Exports`. Assumes
 -- nothing.
-use Rattle.std.specs.Prelude.{zero, ℕ, suc, ◌≤◌, ◌≡◌, Bool, List, [], ◌∷◌, get_or, Ok, Err}
+use Rattle.std.specs.Prelude.{zero, ℕ, suc, ◌≤◌, ◌<◌, ◌≡◌, Bool, List, [], ◌∷◌, Ok, Err}
 use Rattle.std.proofs.Math.Path.{refl}
 use Rattle.std.proofs.Common.{sym, ◌∙◌, arith, leb-true}
 use Rattle.std.proofs.Math.Bool.{true, false, cond}
 use Rattle.std.proofs.Math.Dec.{leb}
 use Rattle.std.proofs.Math.ListN.{length}
 use Rattle.std.proofs.Math.Seq.{length-sets}
-use Rattle.std.proofs.lemmas.List.Edits.{sets}
 use Rattle.plan.specs.Plan.{Plan}
 use Rattle.plan.specs.Refusal.{Outcome, refused, accepted, outcome}
-use Rattle.codegen.specs.Answer.{Answer, refuse}
+use Rattle.codegen.specs.Terms.{odds}
+use Rattle.codegen.specs.Answer.{Answer, refuse, answer_of}
 use Rattle.codegen.specs.AnswerLaws.{Judged, turned_away, taken, judged_outcome}
 use Rattle.splitting.specs.Accepted.{accepted_read}
 use Rattle.refusal.specs.Number.{number}
@@ -19,9 +19,11 @@ use Rattle.refusal.specs.declared.Refusal.{Refusal}
 use Rattle.refusal.specs.NumberLaws.{some_number}
 use Rattle.schedule_rules.specs.Sheet.{sheet, sheet_answer_of, sheet_answer}
 use Rattle.schedule_check.specs.Answered.{Checked, Answers, Exports}
+use Rattle.emitter.specs.Answered.{uncounted}
 use Rattle.demands.specs.Checks.{checks, first_failing, all_pass, first_to_fail, number_given, first_check}
 use Rattle.demands.specs.Request01.{SheetOrRefusal, refusal, faults, SheetTold}
-use Rattle.demands.proofs.Exported.{numbered}
+use Rattle.demands.proofs.Exported.{numbered, most_of, nothing_given}
+use Rattle.demands.proofs.SetLaws.{sets_at, sets_after}
 
 module _ (plan before : List ℕ) where
   abbrev list : List Bool
@@ -52,31 +54,15 @@ module _ (plan before : List ℕ) where
 
 -- THE C FUNCTION
 
-set_first : (told : List ℕ) (l : ℕ) → 1 ≤ length told → get_or (sets told 0 (l ∷ [])) 0 0 ≡ l
-set_first [] l h = absurd (omega arith)
-set_first (a ∷ told) l h = refl
-
-set_others : (told : List ℕ) (l i : ℕ) → 1 ≤ i → get_or (sets told 0 (l ∷ [])) i 0 ≡ get_or told i 0
-set_others [] l i h = refl
-set_others (a ∷ told) l zero h = absurd (omega arith)
-set_others (a ∷ told) l (suc i) h = refl
-
--- no number is larger than 11, and a refusal has length 0
-record Few (a : Answer) : Type 0 where
-  most : a.number ≤ 11
-  nothing : 1 ≤ a.number → a.length ≡ 0
-
-few : (room : ℕ) (plan : List ℕ) → Few (sheet_answer_of room (outcome plan))
-unfolding sheet_answer_of
-few room plan = by_outcome (judged_outcome plan)
+-- it answers as the entries do, of a sheet, in which there is nothing to count
+sheet_is : (room : ℕ) (o : Outcome) → sheet_answer_of room o ≡ uncounted (answer_of sheet room o)
+unfolding sheet_answer_of answer_of
+sheet_is room (refused n) = refl
+sheet_is room (accepted p) = by_room (leb (length (sheet p)) room)
   where
-    by_room : (p : Plan) (b : Bool) → Few (cond b (record { number = 0; length = length (sheet p); count = 0; text = sheet p }) (refuse 11))
-    by_room p true = record { most = omega arith; nothing = λ h. absurd (omega arith) }
-    by_room p false = record { most = omega arith; nothing = λ h. refl }
-
-    by_outcome : {o : Outcome} → Judged o → Few (sheet_answer_of room o)
-    by_outcome (turned_away n h g) = record { most = omega arith; nothing = λ h. refl }
-    by_outcome (taken p) = by_room p (leb (length (sheet p)) room)
+    by_room : (b : Bool) → cond b (record { number = 0; length = length (sheet p); count = 0; text = sheet p }) (refuse 11) ≡ uncounted (cond b (record { number = 0; length = length (sheet p); count = odds p; text = sheet p }) (refuse 11))
+    by_room true = refl
+    by_room false = refl
 
 module _ (plan before : List ℕ) {n : ℕ} {after told told' : List ℕ} (e : Exports (sheet_answer plan (length before)) n before after told told') where
   abbrev given : Answer
@@ -87,17 +73,19 @@ module _ (plan before : List ℕ) {n : ℕ} {after told told' : List ℕ} (e : E
     result = r;
     holds = request_01 plan before q;
     number = e.numbered ∙ sym q.number;
-    entry_0 = λ g. rw e.values (set_first told given.length g ∙ sym q.length);
-    others = λ i g. rw e.values (set_others told given.length i g);
+    entry_0 = λ g. rw e.values (sets_at told (given.length ∷ []) 0 0 g (let b : 0 < 1 = omega arith in b) ∙ sym q.length);
+    others = λ i g. rw e.values (sets_after told (given.length ∷ []) 0 i g);
     entries = rw e.values (length-sets told 0 (given.length ∷ []));
   }
 
-  by_number : Few given → (m : ℕ) → m ≡ given.number → SheetTold plan before after n told told'
-  by_number f zero z = tells (Ok given.length) (record { number = z; length = refl; bytes = e.bytes })
-  by_number f (suc m) z =
-      let r : (r : Refusal) × (number r ≡ suc m) = numbered m (let h = f.most in omega (arith, h, z)) in
-      tells (Err r.0) (record { number = r.1 ∙ z; length = sym (f.nothing (omega (arith, z))); bytes = e.bytes })
+  by_number : (m : ℕ) → m ≡ given.number → given.number ≤ 11 → (1 ≤ given.number → given.length ≡ 0) → SheetTold plan before after n told told'
+  by_number zero z most nothing = tells (Ok given.length) (record { number = z; length = refl; bytes = e.bytes })
+  by_number (suc m) z most nothing =
+      let r : (r : Refusal) × (number r ≡ suc m) = numbered m (omega arith) in
+      tells (Err r.0) (record { number = r.1 ∙ z; length = sym (nothing (omega arith)); bytes = e.bytes })
 
   pub exported_request_01 : SheetTold plan before after n told told'
   unfolding sheet_answer
-  exported_request_01 = by_number (few (length before) plan) n e.numbered
+  exported_request_01 =
+      let is : given ≡ uncounted (answer_of sheet (length before) (outcome plan)) = sheet_is (length before) (outcome plan) in
+      by_number n e.numbered (rw is (most_of sheet (length before) plan)) (rw is (λ g. (nothing_given sheet (length before) (outcome plan) g).0))
