@@ -7,7 +7,7 @@ use Rattle.std.proofs.lemmas.List.{length-map}
 use Rattle.std.proofs.Math.Option.{Option, some, none}
 use mathlib.Core.List.{List, [], ◌∷◌}
 use native.Mathlib.Omega.{arith}
-use Rattle.text.specs.Writes.{Writes}
+use Rattle.text.specs.Writes.{SameSink, Writes}
 use Rattle.text.specs.declared.sink.Sink.{Sink}
 use Rattle.plan.specs.Row.{Row, level}
 use Rattle.codegen.specs.Block.{Purpose, closures, numbered, pushed}
@@ -36,18 +36,19 @@ use Rattle.blocks.specs.Row.{Splitting, RowKept}
 use Rattle.blocks.specs.Stack.{next_level, frame_told, frames_told, purpose_last, inside_last, not_deeper_last, depth_some, depth_few, row_level}
 use Rattle.blocks.specs.declared.walk.RowFrame.{RowFrame}
 
--- The rows from row `first` up to row `last` are written, where the open frames and the root have that many places.
+-- The rows from row `first` up to row `last` are written, where the open frames and the root have that many places. That the lent buffer
+-- and the room are the same holds whatever the rows are.
 pub record BlockWritten (b : Body) (first last places : ℕ) (refs bound : List Bool) (w w' : Sink) : Type 0 where
+  pub same : SameSink w w'
   pub is : (sp : ℕ → Bool) → Fits b → Splitting sp b.threshold → Shallow b.bindings.plan.now.words.now b.bindings.plan.now.rows.now first last places → WritesWalk (env_in b) (body_told b) sp (standing (set_of bound) 0 []) 0 (rows_in b last first) w (set_of refs) w'
 
 -- What is left to write at the sink w, of the rows from row r on and the frames `fs`, m closures having numbers, ends where the whole does.
 pub record Rest (b : Body) (sp : ℕ → Bool) (first last : ℕ) (w₀ : Sink) (refs₀ bound₀ : List Bool) (fs : List block.Frame) (m r : ℕ) (w : Sink) (refs bound : List Bool) : Type 0 where
-  pub buffer : w.out.ghost_name ≡ w₀.out.ghost_name
-  pub end : w.end ≡ w₀.end
   pub middle : Middle w₀.end (env_in b) (body_told b) sp (standing (set_of bound₀) 0 []) (rows_in b last first) w₀.out.now w₀.at w₀.odd (set_of refs₀) (set_of bound) m fs (r - first) (rows_in b last r) w.out.now w.at w.odd (set_of refs)
 
 -- the open frames are fs, d of them
 pub record Walking (b : Body) (first last : ℕ) (w₀ : Sink) (refs₀ bound₀ : List Bool) (fs : List (Frame RowFrame)) (d r : ℕ) (w : Sink) (s : BodyContext) : Type 0 where
+  pub same : SameSink w₀ w
   pub count : length fs ≡ d
   pub room : d < 65
   pub stands : StandsIn s.nesting (frames_told fs)
@@ -67,13 +68,14 @@ module _ {b : Body} {first last : ℕ} {w₀ : Sink} {refs₀ bound₀ : List Bo
   pub walking_start : {fs : List (Frame RowFrame)} {d : ℕ} {s : BodyContext} → fs ≡ [] → d ≡ 0 → s.nesting ≡ record { depth = 1; match_split = 0; in_closure = false } → s.is_ref ≡ refs₀ → s.is_bound ≡ bound₀ → Walking b first last w₀ refs₀ bound₀ fs d first w₀ s
   unfolding closures
   walking_start {s = s} empty nothing h g e = rw (empty, nothing) (record {
+    same = (refl, refl, refl);
     count = refl;
     room = omega arith;
     stands = rw h (record { depth = refl; closure = refl });
     deep = rw h (omega arith);
     few = rw h (omega arith);
     begun = rw h (omega arith);
-    rest = λ sp f y. let z : first - first ≡ 0 = omega arith in rw (h, g, e) (record { buffer = refl; end = refl; middle = rw z (record { is = emitting_start }) });
+    rest = λ sp f y. let z : first - first ≡ 0 = omega arith in rw (h, g, e) (record { middle = rw z (record { is = emitting_start }) });
   })
 
   module _ {fs : List (Frame RowFrame)} {d r : ℕ} {w : Sink} {s : BodyContext} (k : Walking b first last w₀ refs₀ bound₀ fs d r w s) where
@@ -82,7 +84,7 @@ module _ {b : Body} {first last : ℕ} {w₀ : Sink} {refs₀ bound₀ : List Bo
 
     -- past the room
     pub walking_past : {places : ℕ} → w.end ≤ w.at → Written places
-    walking_past h = record { is = λ sp f y u. let q = k.rest sp f y in record { buffer = q.buffer; end = q.end; walk = middle_past q.middle (rw q.end at h) } }
+    walking_past h = record { same = k.same; is = λ sp f y u. record { buffer = k.same.0; size = k.same.1; end = k.same.2; walk = middle_past (k.rest sp f y).middle (rw k.same.2 at h) } }
 
     -- no row is left, and no frame is open
     abbrev Left : (ℕ → Bool) → List block.Frame → List Row → Type 0
@@ -98,7 +100,7 @@ module _ {b : Body} {first last : ℕ} {w₀ : Sink} {refs₀ bound₀ : List Bo
     left_frames (x ∷ gs) n u sp m = absurd (omega arith)
 
     pub walking_done : {places : ℕ} {l : ℕ} {f : Frame RowFrame} → Last fs f → d ≡ 0 → l ≡ next_level (rows_in b last r) → l ≤ f.level → Written places
-    walking_done t h q g = record { is = λ sp f y u. let e = k.rest sp f y in record { buffer = e.buffer; end = e.end; walk = middle_done (left_frames fs (omega (arith, k.count)) (omega (arith, q, g, t.level)) sp e.middle) } }
+    walking_done t h q g = record { same = k.same; is = λ sp f y u. record { buffer = k.same.0; size = k.same.1; end = k.same.2; walk = middle_done (left_frames fs (omega (arith, k.count)) (omega (arith, q, g, t.level)) sp (k.rest sp f y).middle) } }
 
     module _ {l : ℕ} (q : l ≡ next_level (rows_in b last r)) where
       level_here : r < last → l ≡ suc (level (block_of (row_in b r)))
@@ -106,7 +108,7 @@ module _ {b : Body} {first last : ℕ} {w₀ : Sink} {refs₀ bound₀ : List Bo
 
       -- there is a place for each level
       pub walking_full : {places : ℕ} → length fs ≤ last_level fs → r < last → min places 65 ≤ d + 1 → last_level fs < l → Written places
-      walking_full low there h g = record { is = λ sp f y u. absurd (omega (arith, k.count, low, level_here there, u.levels r (omega (arith, k.begun)) there, u.places r (omega (arith, k.begun)) there)) }
+      walking_full low there h g = record { same = k.same; is = λ sp f y u. absurd (omega (arith, k.count, low, level_here there, u.levels r (omega (arith, k.begun)) there, u.places r (omega (arith, k.begun)) there)) }
 
     -- the last frame closes
     module _ {l : ℕ} {f : Frame RowFrame} {gs : List (Frame RowFrame)} {d' : ℕ} (q : l ≡ next_level (rows_in b last r)) (opened : fs ≡ f ∷ gs) (few : length gs ≡ d') (h : 0 < f.level) (g : l ≤ f.level) where
@@ -120,6 +122,7 @@ module _ {b : Body} {first last : ℕ} {w₀ : Sink} {refs₀ bound₀ : List Bo
       walking_altered {n} {w'} e p =
           let stands : StandsIn n (frames_told gs) = stands_ended (rw opened at k.stands) (length-map gs frame_told ∙ few) e in
           record {
+            same = (p.buffer ∙ k.same.0, p.size ∙ k.same.1, p.end ∙ k.same.2);
             count = few;
             room = omega (arith, k.room, same_count);
             stands = stands;
@@ -127,12 +130,9 @@ module _ {b : Body} {first last : ℕ} {w₀ : Sink} {refs₀ bound₀ : List Bo
             few = omega (arith, few, depth_few gs stands);
             begun = rw e.split k.begun;
             rest = λ sp z y.
-                let m = k.rest sp z y in
                 record {
-                  buffer = p.buffer ∙ m.buffer;
-                  end = p.end ∙ m.end;
-                  middle = rw (e.split, p.odd) (middle_close (rw opened at m.middle) (not_deeper_last f _ h (rw q at g))
-                      (parts_puts (block_odds (frame_told f) (frames_told gs)) (rw (block_is (env_in b) (frames_told gs) (frame_told f), ← stands.depth, ← stands.closure) (rw m.end at p.puts))));
+                  middle = rw (e.split, p.odd) (middle_close (rw opened at (k.rest sp z y).middle) (not_deeper_last f _ h (rw q at g))
+                      (parts_puts (block_odds (frame_told f) (frames_told gs)) (rw (block_is (env_in b) (frames_told gs) (frame_told f), ← stands.depth, ← stands.closure) (rw k.same.2 at p.puts))));
                 };
           }
 
@@ -152,14 +152,11 @@ module _ {b : Body} {first last : ℕ} {w₀ : Sink} {refs₀ bound₀ : List Bo
           → (sp : ℕ → Bool) → Fits b → Splitting sp b.threshold → Rest b sp first last w₀ refs₀ bound₀ gs n.match_split (r + 1) w' s'.is_ref s'.is_bound
       row_rest gs n e c sp z v =
           let next : r + 1 - first ≡ suc (r - first) = omega (arith, k.begun) in
-          let m = k.rest sp z v in
           let p = y.row.parts z (r - first) (frames_told fs) k.stands in
           record {
-            buffer = p.buffer ∙ m.buffer;
-            end = p.end ∙ m.end;
-            middle = rw (e, next, c) (middle_own splits (rw (rows_next b.bindings.plan.now.words.now b.bindings.plan.now.rows.now r last there) at m.middle) (inside_last fs (level (block_of (row_in b r))) low deeper)
-                (rw (purpose_last fs) (record { frame = λ c. sym (y.row.frame c); bound = λ c. sym (y.row.bound c); restored = y.outside })) (y.row.weighs sp v)
-                (rw (purpose_last fs) (rw m.end at p.leads)));
+            middle = rw (e, next, c) (middle_own splits (rw (rows_next b.bindings.plan.now.words.now b.bindings.plan.now.rows.now r last there) at (k.rest sp z v).middle) (inside_last fs (level (block_of (row_in b r))) low deeper)
+                (rw (purpose_last fs) (record { frame = λ q. sym (y.row.frame (body_told b) q); bound = λ q. sym (y.row.bound (body_told b) q); restored = y.outside (body_told b) })) (y.row.weighs sp v)
+                (rw (purpose_last fs) (rw k.same.2 at p.leads)));
           }
 
       count_more : (c : Bool) → s.nesting.match_split + first ≤ r → cond c (suc s.nesting.match_split) s.nesting.match_split + first ≤ r + 1
@@ -171,6 +168,7 @@ module _ {b : Body} {first last : ℕ} {w₀ : Sink} {refs₀ bound₀ : List Bo
     pub walking_none : {w' : Sink} {s' : BodyContext} {kept : List Bool} → last_level fs < suc (level (block_of (row_in b r))) → RowKept b (last_purpose fs) r last w s none false w' s' kept → Walking b first last w₀ refs₀ bound₀ fs d (r + 1) w' s'
     unfolding pushed
     walking_none {s' = s'} deeper y = record {
+      same = let x = y.row.same in (x.0 ∙ k.same.0, x.1 ∙ k.same.1, x.2 ∙ k.same.2);
       count = k.count;
       room = k.room;
       stands = rw y.row.nesting k.stands;
@@ -189,11 +187,12 @@ module _ {b : Body} {first last : ℕ} {w₀ : Sink} {refs₀ bound₀ : List Bo
         let begun : Begun s.nesting splits n = rw y.row.nesting at v in
         let closure : closure_told f.own.closure ≡ numbered splits s.nesting.match_split = fc ∙ ap (λ (m : Nesting). numbered splits m.match_split) y.row.nesting in
         let row : Row = block_of (row_in b r) in
-        let opens : nth (row_in b r) 1 ≡ 3 → ⊥ = λ h. none_some (purpose_told p) (sym (return_opens (body_told b) (set_of s.is_ref) (set_of s.is_bound) (last_purpose fs) (row_in b r) (rows_in b last (r + 1)) h) ∙ sym (y.row.frame (set_of s.is_ref))) in
+        let opens : nth (row_in b r) 1 ≡ 3 → ⊥ = λ h. none_some (purpose_told p) (sym (return_opens (body_told b) (set_of s.is_ref) (set_of s.is_bound) (last_purpose fs) (row_in b r) (rows_in b last (r + 1)) h) ∙ sym (y.row.frame (body_told b) (set_of s.is_ref))) in
         let bound : set_of f.bound ≡ set_of y.scope = ap set_of (fb ∙ y.saved opens) in
         let here : f.level - 1 ≡ level row = omega arith in
         let stands : StandsIn n (frames_told gs) = rw opened (stands_begun (frame_told f) s.nesting.match_split splits k.stands begun closure) in
         record {
+          same = let x = y.row.same in (x.0 ∙ k.same.0, x.1 ∙ k.same.1, x.2 ∙ k.same.2);
           count = few;
           room = omega (arith, few, k.count, ap (length {A = Frame RowFrame}) opened);
           stands = stands;

@@ -4,7 +4,7 @@ ghost use Rattle.std.proofs.Math.Option.{some, none};
 ghost use Rattle.codegen.specs.Block.{is_arm_body};
 ghost use Rattle.emits.specs.Marks.{set_of};
 ghost use Rattle.row_frames.specs.Told.{purpose_told, opens_told};
-ghost use Rattle.body.specs.Told.{StandsIn};
+ghost use Rattle.body.specs.Told.{StandsAt, StandsIn};
 ghost use Rattle.body.specs.Own.{WritesOwn};
 ghost use Rattle.blocks.specs.Row.{Splitting, lets_in, check_in, weight_in, WritesRow, frame_of, splits_of};
 
@@ -27,7 +27,7 @@ pub struct Opened {
 // A step's `bind_order`; an arm has none. How deep lines are is asked of each call: an invariant of `Nesting` would ask it of `end_block`, too.
 pub fn emit_bind_order(w: &mut Sink<'_>, body: &Body<'_>, context: &mut BodyContext, r: usize)
     requires { context.old.nesting.depth < 4095 }
-    ensures own { WritesOwn (Unit {0}) body.now (StandsIn context.old.nesting) (lets_in body.now (set_of context.old.is_bound) r) w.old context.old.is_ref none w.new context.new.is_ref context.new.is_bound }
+    ensures own { WritesOwn (Unit {0}) body.now (StandsAt context.old.nesting.depth) (lets_in body.now (set_of context.old.is_bound) r) w.old context.old.is_ref none w.new context.new.is_ref context.new.is_bound }
     ensures nesting { context.new.nesting ≡ context.old.nesting }
 {
     if body.bindings.plan.is_step(r) {

@@ -53,7 +53,7 @@ impl RowFrame {
 // One more than the level of row r, 0 past the last row: there each frame closes, as its level is not below 0. The level is read as a cell, which
 // has 32 bits: one more is a number.
 #[tactic(auto, using(crate::specs::Stack::level_next, crate::specs::Stack::level_none))]
-fn next_level(plan: &Plan<'_>, r: usize, last: usize) -> usize
+fn next_level(plan: &Plan<'_, '_, '_>, r: usize, last: usize) -> usize
     ensures level { result ≡ next_level (rows_from plan.now.words.now plan.now.rows.now last r) }
     ensures there { 0 < result → r < last }
 {

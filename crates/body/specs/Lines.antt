@@ -18,6 +18,7 @@ use Rattle.body.specs.Leads.{place_append, said_line, said_refs}
 -- from here, the parts x lead there; a gives the marks after them. The lent buffer and the room are the same.
 pub record Leads (env : Environment) (x : Marks → List Part) (a : Marks → Marks) (w : Sink) (q : Marks) (w' : Sink) (q' : Marks) : Type 0 where
   pub buffer : w'.out.ghost_name ≡ w.out.ghost_name
+  pub size : length w'.out.now ≡ length w.out.now
   pub end : w'.end ≡ w.end
   pub leads : at.Leads w.end env x a w.out.now w.at w.odd q w'.out.now w'.at w'.odd q'
 
@@ -26,16 +27,17 @@ pub ◌⟫ₗ◌ : {env : Environment} {x y : Marks → List Part} {a b : Marks 
     → Leads env x a w q w₁ q₁ → Leads env y b w₁ q₁ w₂ q₂ → Leads env (λ r. x r ++ y (a r)) (λ r. b (a r)) w q w₂ q₂
 ◌⟫ₗ◌ {env} {x} {y} {a} {b} {w} {q} {w₁} {q₁} {w₂} {q₂} u v = record {
   buffer = v.buffer ∙ u.buffer;
+  size = v.size ∙ u.size;
   end = v.end ∙ u.end;
   leads = at.◌⟫ₗ◌ u.leads (subst (λ (e : ℕ). at.Leads e env y b w₁.out.now w₁.at w₁.odd q₁ w₂.out.now w₂.at w₂.odd q₂) u.end v.leads);
 }
 
 pub leads_none : {env : Environment} {w : Sink} {q : Marks} → Leads env (λ r. []) (λ r. r) w q w q
-leads_none = record { buffer = refl; end = refl; leads = at.leads_none }
+leads_none = record { buffer = refl; size = refl; end = refl; leads = at.leads_none }
 
 -- only the marks that there are count
 pub leads_same : {env : Environment} {x y : Marks → List Part} {a b : Marks → Marks} {w : Sink} {q : Marks} {w' : Sink} {q' : Marks} → x q ≡ y q → a q ≡ b q → Leads env x a w q w' q' → Leads env y b w q w' q'
-leads_same h g u = record { buffer = u.buffer; end = u.end; leads = at.leads_same h g u.leads }
+leads_same h g u = record { buffer = u.buffer; size = u.size; end = u.end; leads = at.leads_same h g u.leads }
 
 -- LINES of row i, inside the frames fs
 
@@ -63,6 +65,7 @@ module _ {env : Environment} {i : Option ℕ} {fs : List Frame} {d : ℕ} {w w�
   lines_words {v} h x y z = record {
     is = record {
       buffer = z.buffer ∙ y.buffer ∙ x.buffer;
+      size = z.size ∙ y.size ∙ x.size;
       end = z.end ∙ y.end ∙ x.end;
       leads = rw z.odd (at.lines_words {v = v} h x.puts (rw (x.end, x.odd) at y.emits) (rw (y.end ∙ x.end) at z.puts)).is;
     };
@@ -75,6 +78,7 @@ module _ {env : Environment} {i : Option ℕ} {fs : List Frame} {d : ℕ} {w w�
   lines_overflow h x y z = record {
     is = record {
       buffer = z.buffer ∙ y.buffer ∙ x.buffer;
+      size = z.size ∙ y.size ∙ x.size;
       end = z.end ∙ y.end ∙ x.end;
       leads = rw (z.odd ∙ y.odd ∙ x.odd) (at.lines_overflow h x.puts (rw x.end at y.puts) (rw (y.end ∙ x.end) at z.puts)).is;
     };
@@ -82,4 +86,4 @@ module _ {env : Environment} {i : Option ℕ} {fs : List Frame} {d : ℕ} {w w�
 
 -- parts whose bytes are put at once, and which have no odd literal
 pub leads_text : {env : Environment} {ps : List Part} {w w' : Sink} {q : Marks} → odds_of ps ≡ 0 → Writes (text_of env ps) w w' → Leads env (λ r. ps) (λ r. r) w q w' q
-leads_text h x = record { buffer = x.buffer; end = x.end; leads = rw x.odd (at.leads_parts (parts_puts h x.puts)) }
+leads_text h x = record { buffer = x.buffer; size = x.size; end = x.end; leads = rw x.odd (at.leads_parts (parts_puts h x.puts)) }

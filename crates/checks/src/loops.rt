@@ -36,7 +36,7 @@ fn is_iterated(bindings: &Bindings<'_>, r: usize) -> bool
 
 // Whether each loop of a generated term goes over an `iter` of its bindings.
 #[tactic(auto, using(crate::proofs::Blocks::iterates_at))]
-fn block_iterates(plan: &Plan<'_>, g: GeneratedTables) -> bool
+fn block_iterates(plan: &Plan<'_, '_, '_>, g: GeneratedTables) -> bool
     ensures { result ≡ every (loop_fits (generated_of plan.now g).bindings) (generated_of plan.now g).rows }
 {
     let bindings = Bindings {
@@ -47,7 +47,7 @@ fn block_iterates(plan: &Plan<'_>, g: GeneratedTables) -> bool
 }
 
 #[tactic(auto, using(crate::proofs::Bytes::loops_any), unfolding(plan::specs::Refusal::loops_iterate))]
-pub fn loops_iterate(plan: &Plan<'_>) -> bool
+pub fn loops_iterate(plan: &Plan<'_, '_, '_>) -> bool
     ensures own { result ≡ loops_iterate (plan_of plan.now) }
     ensures any { (bytes : List ℕ) → result ≡ loops_iterate (plan_in bytes plan.now.words.now plan.now.rows.now plan.now.tables.now) }
 {

@@ -15,7 +15,7 @@ use view::buffers::Plan;
 use view::heads::BINDING_HEAD;
 
 // Whether each source of the bindings of table t is a lower binding.
-fn all_below(plan: &Plan<'_>, t: usize) -> bool
+fn all_below(plan: &Plan<'_, '_, '_>, t: usize) -> bool
     ensures { result ≡ sources_below 0 (map binding_of (rows_of plan.now t)) }
 {
     plan.row_range(t)
@@ -38,7 +38,7 @@ fn is_new(marks: &mut [bool], b: Binding) -> bool
 }
 
 // Whether no two bindings of table t are one argument below 32.
-fn all_distinct(plan: &Plan<'_>, t: usize) -> bool
+fn all_distinct(plan: &Plan<'_, '_, '_>, t: usize) -> bool
     ensures { result ≡ marks_new (replicate 32 false) (map binding_of (rows_of plan.now t)) }
 {
     let mut marks = [false; 32];
@@ -47,7 +47,7 @@ fn all_distinct(plan: &Plan<'_>, t: usize) -> bool
 }
 
 // Refusal 7 of the bindings of table t.
-fn bindings_lower(plan: &Plan<'_>, t: usize) -> bool
+fn bindings_lower(plan: &Plan<'_, '_, '_>, t: usize) -> bool
     ensures { result ≡ (sources_below 0 (map binding_of (rows_of plan.now t)) && marks_new (replicate 32 false) (map binding_of (rows_of plan.now t))) }
 {
     all_below(plan, t) && all_distinct(plan, t)
@@ -55,7 +55,7 @@ fn bindings_lower(plan: &Plan<'_>, t: usize) -> bool
 
 // One line over the chain of `tables`: as at `arms::block_armed`, what differs is the test alone, and a function of those lines would be another
 // such chain.
-pub fn sources_lower(plan: &Plan<'_>) -> bool
+pub fn sources_lower(plan: &Plan<'_, '_, '_>) -> bool
     ensures own { arguments_few (plan_of plan.now) ≡ true → result ≡ sources_lower (plan_of plan.now) }
     ensures any { (bytes : List ℕ) → let p = plan_in bytes plan.now.words.now plan.now.rows.now plan.now.tables.now in arguments_few p ≡ true → result ≡ sources_lower p }
 {

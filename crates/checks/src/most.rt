@@ -19,7 +19,7 @@ const LIST_MOST: usize = 32;
 const LEVEL_MOST: usize = 63;
 
 // Whether the tables of the environment are within their most: 256 types with the builtins.
-fn counts_within(plan: &Plan<'_>) -> bool
+fn counts_within(plan: &Plan<'_, '_, '_>) -> bool
     ensures { result ≡ counts_most (env_of plan.now) }
 {
     let most = [
@@ -35,7 +35,7 @@ fn counts_within(plan: &Plan<'_>) -> bool
 
 // Whether the tables of the environment, and their lists, are within their most.
 #[tactic(auto, using(crate::proofs::Counts::environment_tests))]
-fn environment_within(plan: &Plan<'_>) -> bool
+fn environment_within(plan: &Plan<'_, '_, '_>) -> bool
     ensures { result ≡ environment_most (env_of plan.now) }
 {
     counts_within(plan)
@@ -46,7 +46,7 @@ fn environment_within(plan: &Plan<'_>) -> bool
 
 // Whether the level and the list of row r, of a block, are within their most.
 #[tactic(auto, using(crate::proofs::Counts::row_within))]
-fn row_within(plan: &Plan<'_>, r: usize) -> bool
+fn row_within(plan: &Plan<'_, '_, '_>, r: usize) -> bool
     ensures { result ≡ row_most (block_of (words_of plan.now r)) }
 {
     plan.word(r, 0) <= LEVEL_MOST && plan.list(r, BLOCK_HEAD).len() <= LIST_MOST
@@ -54,7 +54,7 @@ fn row_within(plan: &Plan<'_>, r: usize) -> bool
 
 // Whether the bindings and the block of a generated term are within their most.
 #[tactic(auto, using(crate::proofs::Counts::generated_tests))]
-fn generated_within(plan: &Plan<'_>, g: GeneratedTables) -> bool
+fn generated_within(plan: &Plan<'_, '_, '_>, g: GeneratedTables) -> bool
     ensures { result ≡ generated_most (generated_of plan.now g) }
 {
     plan.row_count(g.bindings) <= 1024
@@ -68,7 +68,7 @@ fn generated_within(plan: &Plan<'_>, g: GeneratedTables) -> bool
 }
 
 #[tactic(auto, using(crate::proofs::Counts::within_tests, crate::proofs::Bytes::most_any))]
-pub fn within_most(plan: &Plan<'_>) -> bool
+pub fn within_most(plan: &Plan<'_, '_, '_>) -> bool
     ensures own { result ≡ within_most (plan_of plan.now) }
     ensures any { (bytes : List ℕ) → result ≡ within_most (plan_in bytes plan.now.words.now plan.now.rows.now plan.now.tables.now) }
 {

@@ -15,7 +15,7 @@ use view::buffers::Plan;
 
 // Whether row r, a return in a block that ends before row `end`, is the last step of its own block: no row after it is as deep.
 #[tactic(auto, using(crate::proofs::Blocks::last_alone, crate::proofs::Blocks::last_before))]
-fn ends_block(plan: &Plan<'_>, r: usize, end: usize) -> bool
+fn ends_block(plan: &Plan<'_, '_, '_>, r: usize, end: usize) -> bool
     ensures { result ≡ ends_block (level (block_of (words_of plan.now r))) (map block_of (cuts plan.now.words.now plan.now.rows.now (r + 1) (end - (r + 1)))) }
 {
     end <= r || end == r + 1 || plan.word(r + 1, 0) < plan.word(r, 0)
@@ -23,7 +23,7 @@ fn ends_block(plan: &Plan<'_>, r: usize, end: usize) -> bool
 
 // Whether row r, in a block that ends before row `end`, is no loop, and no return or the last step of its block.
 #[tactic(auto, using(crate::proofs::Blocks::ended_loop, crate::proofs::Blocks::ended_return, crate::proofs::Blocks::ended_other))]
-fn is_last(plan: &Plan<'_>, r: usize, end: usize) -> bool
+fn is_last(plan: &Plan<'_, '_, '_>, r: usize, end: usize) -> bool
     ensures { result ≡ ended plan.now end r }
 {
     match plan.block_kind(r) {
@@ -35,7 +35,7 @@ fn is_last(plan: &Plan<'_>, r: usize, end: usize) -> bool
 
 // Whether the block of table t has no loop, and each return of it is the last step of its block: a chain as `arms::block_armed` is, with
 // another test.
-fn block_ends(plan: &Plan<'_>, t: usize) -> bool
+fn block_ends(plan: &Plan<'_, '_, '_>, t: usize) -> bool
     ensures { result ≡ returns_last (map block_of (rows_of plan.now t)) }
 {
     let end = plan.end_row(t);
@@ -43,7 +43,7 @@ fn block_ends(plan: &Plan<'_>, t: usize) -> bool
 }
 
 // Refusal 8 of a generated term.
-fn term_returns(plan: &Plan<'_>, g: GeneratedTables) -> bool
+fn term_returns(plan: &Plan<'_, '_, '_>, g: GeneratedTables) -> bool
     ensures { result ≡ ((term_at (env_of plan.now) (generated_of plan.now g).term).multi || returns_last (generated_of plan.now g).rows) }
 {
     plan.is_multi(g.number(plan)) || block_ends(plan, g.block)
@@ -51,7 +51,7 @@ fn term_returns(plan: &Plan<'_>, g: GeneratedTables) -> bool
 
 // One line over the chain of `tables`: as at `arms::block_armed`, what differs is the test alone.
 #[tactic(auto, using(crate::proofs::Blocks::returns_tests, crate::proofs::Bytes::returns_any))]
-pub fn returns_fit(plan: &Plan<'_>) -> bool
+pub fn returns_fit(plan: &Plan<'_, '_, '_>) -> bool
     ensures own { result ≡ returns_fit (plan_of plan.now) }
     ensures any { (bytes : List ℕ) → result ≡ returns_fit (plan_in bytes plan.now.words.now plan.now.rows.now plan.now.tables.now) }
 {

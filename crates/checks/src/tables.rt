@@ -18,7 +18,7 @@ pub struct GeneratedTables {
 
 impl GeneratedTables {
     // The number of the term.
-    pub fn number(self, plan: &Plan<'_>) -> usize
+    pub fn number(self, plan: &Plan<'_, '_, '_>) -> usize
         ensures { result ≡ (generated_of plan.now self).term }
     {
         plan.word(plan.row_at(self.term, 0), 0)
@@ -40,7 +40,7 @@ pub fn generated_tables(i: usize) -> GeneratedTables
 
 // How many generated terms there are: `tables` has an entry more than there are tables.
 #[tactic(auto, using(crate::specs::Terms::terms_count))]
-pub fn generated_count(plan: &Plan<'_>) -> usize
+pub fn generated_count(plan: &Plan<'_, '_, '_>) -> usize
     ensures count { result ≡ length (plan_of plan.now).generated }
     ensures few { result < 2 ^ 62 }
 {
@@ -48,7 +48,7 @@ pub fn generated_count(plan: &Plan<'_>) -> usize
 }
 
 // Whether each generated term passes a test.
-pub fn all_generated<F: Fn(GeneratedTables) -> bool>(plan: &Plan<'_>, test: F) -> bool
+pub fn all_generated<F: Fn(GeneratedTables) -> bool>(plan: &Plan<'_, '_, '_>, test: F) -> bool
     requires { F.IsAlwaysCallable test }
     ensures { (P : Generated → Bool) → Tests (F.post test) (generated_of plan.now) P → result ≡ every P (plan_of plan.now).generated }
 {
@@ -56,7 +56,7 @@ pub fn all_generated<F: Fn(GeneratedTables) -> bool>(plan: &Plan<'_>, test: F) -
 }
 
 // Whether each row of table t passes a test.
-pub fn all_rows<F: Fn(usize) -> bool>(plan: &Plan<'_>, t: usize, test: F) -> bool
+pub fn all_rows<F: Fn(usize) -> bool>(plan: &Plan<'_, '_, '_>, t: usize, test: F) -> bool
     requires { F.IsAlwaysCallable test }
     ensures { (P : List ℕ → Bool) → Tests (F.post test) (words_of plan.now) P → result ≡ every P (rows_of plan.now t) }
 {

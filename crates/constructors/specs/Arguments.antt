@@ -1,14 +1,15 @@
 -- The arguments of a term that are references, in the buffers. Assumes nothing.
-use Rattle.std.specs.Prelude.{ℕ, zero, suc, ◌+◌, ◌-◌, ◌≤◌, ◌<◌, ◌≡◌, refl, Bool, true, false, cond, List, map, length, drop, get_or, Option, Some, None}
+use Rattle.std.specs.Prelude.{ℕ, zero, suc, ◌+◌, ◌-◌, ◌≤◌, ◌<◌, ◌≡◌, refl, Bool, true, false, cond, List, [], ◌∷◌, map, eqb, length, drop, get_or, Option, Some, None}
 use Rattle.std.specs.List.{range_with_len, position_from}
-use Rattle.std.proofs.Common.{sym, ap, ◌∙◌, add-one, drop_of_length-le, drop-cons}
+use Rattle.std.proofs.Common.{sym, ap, ◌∙◌, add-one, arith, drop_of_length-le, drop-cons, ne_eqb}
 use Rattle.plan.specs.Plan.{Environment}
 use Rattle.plan.specs.Binding.{BindingRow}
 use Rattle.plan.specs.Lookup.{argument_index}
 use Rattle.codegen.specs.Writer.{Marks, insert}
 use Rattle.codegen.specs.Sema.{is_ref}
 use Rattle.codegen.specs.Terms.{is_index, mark_argument, argument_refs}
-use Rattle.rows.specs.View.{binding_of}
+use Rattle.cells.specs.Value.{Wide}
+use Rattle.rows.specs.View.{nth, wide_at, binding_made, binding_of}
 use Rattle.layout.specs.View.{cuts}
 use Rattle.view.specs.Buffers.{words_of}
 use Rattle.view.specs.declared.buffers.Plan.{Plan}
@@ -29,6 +30,31 @@ found_mark None m = m
 found_mark (Some b) m = insert m b
 
 -- FINDING
+
+index_by : (i k a : ℕ) (w : Wide) → is_index i (argument_index (binding_made k a w)) ≡ cond (eqb k 3) (eqb i a) false
+unfolding binding_made
+index_by i zero a w = refl
+index_by i (suc zero) a w = refl
+index_by i (suc (suc zero)) a w = refl
+index_by i (suc (suc (suc zero))) a w = refl
+index_by i (suc (suc (suc (suc k)))) a w = rw (ne_eqb (suc (suc (suc (suc k)))) 3 (λ q. absurd (omega arith))) (others k)
+  where
+    others : (k : ℕ) → is_index i (argument_index (binding_made (suc (suc (suc (suc k)))) a w)) ≡ false
+    others zero = refl
+    others (suc zero) = refl
+    others (suc (suc zero)) = refl
+    others (suc (suc (suc zero))) = refl
+    others (suc (suc (suc (suc zero)))) = refl
+    others (suc (suc (suc (suc (suc zero))))) = refl
+    others (suc (suc (suc (suc (suc (suc zero)))))) = refl
+    others (suc (suc (suc (suc (suc (suc (suc zero))))))) = refl
+    others (suc (suc (suc (suc (suc (suc (suc (suc zero)))))))) = refl
+    others (suc (suc (suc (suc (suc (suc (suc (suc (suc zero))))))))) = refl
+    others (suc (suc (suc (suc (suc (suc (suc (suc (suc (suc k)))))))))) = refl
+
+pub index_is : (i : ℕ) (ws : List ℕ) → is_index i (argument_index (binding_of ws).binding) ≡ cond (eqb (nth ws 0) 3) (eqb i (nth ws 1)) false
+unfolding binding_of
+index_is i ws = index_by i (nth ws 0) (nth ws 1) (wide_at ws 2)
 
 -- is the binding of row r argument i?
 abbrev pub argument_at : Plan → ℕ → ℕ → Bool

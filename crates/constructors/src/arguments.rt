@@ -17,14 +17,14 @@ use view::binding::Binding;
 use view::buffers::Plan;
 
 // Is the binding of row r argument i?
-fn is_argument(plan: &Plan<'_>, r: usize, i: usize) -> bool
+fn is_argument(plan: &Plan<'_, '_, '_>, r: usize, i: usize) -> bool
     ensures { result ≡ argument_at plan.now i r }
 {
     matches!(plan.binding_at(r), Binding::Argument { index } if i == index)
 }
 
 // `find_binding` of trie_again.rs 292: the binding of argument i, among the bindings from row `first` up to row `last`.
-pub fn find_binding(plan: &Plan<'_>, first: usize, last: usize, i: usize) -> Option<usize>
+pub fn find_binding(plan: &Plan<'_, '_, '_>, first: usize, last: usize, i: usize) -> Option<usize>
     ensures { (m : Marks) → mark_argument i 0 (bindings_in plan.now last first) m ≡ found_mark result m }
 {
     (first..last).position(|r| is_argument(plan, r, i))
@@ -32,7 +32,7 @@ pub fn find_binding(plan: &Plan<'_>, first: usize, last: usize, i: usize) -> Opt
 
 // Argument i, of the type ty, is marked if it is a reference.
 fn mark_argument(
-    plan: &Plan<'_>,
+    plan: &Plan<'_, '_, '_>,
     first: usize,
     last: usize,
     i: usize,
@@ -52,7 +52,7 @@ fn mark_argument(
 
 // The arguments that are references are marked; the term's bindings are those from row `first` up to row `last`.
 pub fn argument_refs(
-    plan: &Plan<'_>,
+    plan: &Plan<'_, '_, '_>,
     first: usize,
     last: usize,
     sig: ExternalSig,

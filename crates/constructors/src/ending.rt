@@ -14,7 +14,7 @@ use view::buffers::Plan;
 
 // Does the root, the rows of level 0 from row `first` up to row `last`, end in a return? Two numbers: of a range
 // that is lent the chain would make another.
-pub fn ends_in_return(plan: &Plan<'_>, first: usize, last: usize) -> bool
+pub fn ends_in_return(plan: &Plan<'_, '_, '_>, first: usize, last: usize) -> bool
     ensures { result ≡ ends_in_return false (rows_in plan.now last first) }
 {
     (first..last)
@@ -24,7 +24,13 @@ pub fn ends_in_return(plan: &Plan<'_>, first: usize, last: usize) -> bool
 
 // `last_expr` of codegen.rs 585.
 #[tactic(auto, using(text::specs::Writes::writes_nil), unfolding(crate::specs::Ending::last_text, codegen::specs::ReturnKind::by_return_kind))]
-fn put_last_expr(w: &mut Sink<'_>, plan: &Plan<'_>, kind: ReturnKind, name: usize, pos: usize)
+fn put_last_expr(
+    w: &mut Sink<'_>,
+    plan: &Plan<'_, '_, '_>,
+    kind: ReturnKind,
+    name: usize,
+    pos: usize,
+)
     ensures { Writes (last_text (env_of plan.now) (return_kind_told kind) name pos) w.old w.new }
 {
     match kind {
@@ -46,7 +52,7 @@ fn put_last_expr(w: &mut Sink<'_>, plan: &Plan<'_>, kind: ReturnKind, name: usiz
 #[tactic(auto, using(text::specs::Writes::writes_nil, text::specs::Writes::writes_then), unfolding(crate::specs::Ending::end_text))]
 pub fn put_end(
     w: &mut Sink<'_>,
-    plan: &Plan<'_>,
+    plan: &Plan<'_, '_, '_>,
     returns: bool,
     kind: ReturnKind,
     name: usize,

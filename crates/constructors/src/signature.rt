@@ -11,7 +11,7 @@ use text::sink::Sink;
 use view::buffers::Plan;
 
 // Up to the arguments.
-pub fn put_head(w: &mut Sink<'_>, plan: &Plan<'_>, name: usize, sig: ExternalSig)
+pub fn put_head(w: &mut Sink<'_>, plan: &Plan<'_, '_, '_>, name: usize, sig: ExternalSig)
     ensures { let env = env_of plan.now in Writes (head_text env name (sig_told env sig).func_name) w.old w.new }
 {
     w.put_bytes(b"\n// Generated as internal constructor for term ");
@@ -22,7 +22,7 @@ pub fn put_head(w: &mut Sink<'_>, plan: &Plan<'_>, name: usize, sig: ExternalSig
 }
 
 // An argument's line.
-fn put_argument(w: &mut Sink<'_>, plan: &Plan<'_>, i: usize, ty: TypeId)
+fn put_argument(w: &mut Sink<'_>, plan: &Plan<'_, '_, '_>, i: usize, ty: TypeId)
     ensures { Writes (argument_text (env_of plan.now) i ty.0) w.old w.new }
 {
     w.put_bytes(b"    arg");
@@ -32,7 +32,7 @@ fn put_argument(w: &mut Sink<'_>, plan: &Plan<'_>, i: usize, ty: TypeId)
     w.put_bytes(b",\n");
 }
 
-pub fn put_arguments(w: &mut Sink<'_>, plan: &Plan<'_>, sig: ExternalSig)
+pub fn put_arguments(w: &mut Sink<'_>, plan: &Plan<'_, '_, '_>, sig: ExternalSig)
     ensures { let env = env_of plan.now in Writes (arguments_text env 0 (sig_told env sig).param_tys) w.old w.new }
 {
     // By number: `param_ty` makes a `TypeId` of a word, which a loop over the words would do itself.
@@ -42,7 +42,7 @@ pub fn put_arguments(w: &mut Sink<'_>, plan: &Plan<'_>, sig: ExternalSig)
 }
 
 // After the arguments.
-pub fn put_result(w: &mut Sink<'_>, plan: &Plan<'_>, kind: ReturnKind, ty: TypeId)
+pub fn put_result(w: &mut Sink<'_>, plan: &Plan<'_, '_, '_>, kind: ReturnKind, ty: TypeId)
     ensures { Writes (result_text (env_of plan.now) (return_kind_told kind) ty.0) w.old w.new }
 {
     match kind {

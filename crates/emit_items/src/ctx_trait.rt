@@ -19,7 +19,7 @@ use view::tables::TERMS;
 
 // `type_name` of codegen.rs 506, with its parameter `by_ref`: a function for each of its two values would be no plainer than this one.
 #[tactic(auto, using(crate::specs::Shown::shown, crate::proofs::ctx_trait::Lists::shows_param), unfolding(codegen::specs::Items::type_name))]
-pub fn type_name(w: &mut Sink<'_>, plan: &Plan<'_>, by_ref: bool, ty: TypeId)
+pub fn type_name(w: &mut Sink<'_>, plan: &Plan<'_, '_, '_>, by_ref: bool, ty: TypeId)
     ensures { let env = env_of plan.now in (d : ℕ) → Shows env d (type_name env by_ref ty.0) w.old w.new }
 {
     if by_ref {
@@ -41,7 +41,7 @@ pub fn put_separator(w: &mut Sink<'_>, i: usize)
 
 // The results of a signature. By number, here and in `sig_params`: `ret_ty` and `param_ty` make a `TypeId` of a word, which each loop over the
 // words would do itself.
-fn ret_types(w: &mut Sink<'_>, plan: &Plan<'_>, sig: ExternalSig)
+fn ret_types(w: &mut Sink<'_>, plan: &Plan<'_, '_, '_>, sig: ExternalSig)
     ensures { let env = env_of plan.now in Shows env 0 (join (type_names env (sig_told env sig).ret_tys)) w.old w.new }
 {
     for i in 0..sig.ret_count(plan) {
@@ -51,7 +51,7 @@ fn ret_types(w: &mut Sink<'_>, plan: &Plan<'_>, sig: ExternalSig)
 }
 
 // They stand in parentheses unless there is one.
-fn ret_tuple(w: &mut Sink<'_>, plan: &Plan<'_>, sig: ExternalSig)
+fn ret_tuple(w: &mut Sink<'_>, plan: &Plan<'_, '_, '_>, sig: ExternalSig)
     ensures { let env = env_of plan.now in Shows env 0 (ret_tuple env (sig_told env sig).ret_tys) w.old w.new }
 {
     match sig.ret_count(plan) {
@@ -66,7 +66,7 @@ fn ret_tuple(w: &mut Sink<'_>, plan: &Plan<'_>, sig: ExternalSig)
 }
 
 // The parameter i of a signature.
-fn param(w: &mut Sink<'_>, plan: &Plan<'_>, sig: ExternalSig, i: usize)
+fn param(w: &mut Sink<'_>, plan: &Plan<'_, '_, '_>, sig: ExternalSig, i: usize)
     ensures { let env = env_of plan.now in Shows env 0 (param env (sig_told env sig) i) w.old w.new }
 {
     put_separator(w, i);
@@ -78,7 +78,7 @@ fn param(w: &mut Sink<'_>, plan: &Plan<'_>, sig: ExternalSig, i: usize)
 
 // The buffer of an iterator, after n parameters.
 #[tactic(auto, using(crate::specs::Shown::shown), unfolding(codegen::specs::ReturnKind::by_return_kind, crate::specs::TraitParts::joined))]
-fn last_param(w: &mut Sink<'_>, plan: &Plan<'_>, sig: ExternalSig, n: usize)
+fn last_param(w: &mut Sink<'_>, plan: &Plan<'_, '_, '_>, sig: ExternalSig, n: usize)
     ensures { let env = env_of plan.now in Shows env 0 (last_param (sig_told env sig) n) w.old w.new }
 {
     if sig.ret_kind == ReturnKind::Iterator {
@@ -89,7 +89,7 @@ fn last_param(w: &mut Sink<'_>, plan: &Plan<'_>, sig: ExternalSig, n: usize)
     }
 }
 
-fn sig_params(w: &mut Sink<'_>, plan: &Plan<'_>, sig: ExternalSig)
+fn sig_params(w: &mut Sink<'_>, plan: &Plan<'_, '_, '_>, sig: ExternalSig)
     ensures { let env = env_of plan.now in Shows env 0 (join (sig_params env (sig_told env sig) 0 (sig_told env sig).param_tys)) w.old w.new }
 {
     let n = sig.param_count(plan);
@@ -101,7 +101,7 @@ fn sig_params(w: &mut Sink<'_>, plan: &Plan<'_>, sig: ExternalSig)
 
 // The line for the type of an iterator's buffer.
 #[tactic(auto, using(crate::specs::Shown::shown), unfolding(codegen::specs::ReturnKind::by_return_kind))]
-fn returns_type(w: &mut Sink<'_>, plan: &Plan<'_>, sig: ExternalSig)
+fn returns_type(w: &mut Sink<'_>, plan: &Plan<'_, '_, '_>, sig: ExternalSig)
     ensures { let env = env_of plan.now in Shows env 0 (returns_type env (sig_told env sig)) w.old w.new }
 {
     if sig.ret_kind == ReturnKind::Iterator {
@@ -114,7 +114,7 @@ fn returns_type(w: &mut Sink<'_>, plan: &Plan<'_>, sig: ExternalSig)
 }
 
 #[tactic(auto, using(crate::specs::Shown::shown), unfolding(codegen::specs::ReturnKind::by_return_kind))]
-fn ret_ty(w: &mut Sink<'_>, plan: &Plan<'_>, sig: ExternalSig)
+fn ret_ty(w: &mut Sink<'_>, plan: &Plan<'_, '_, '_>, sig: ExternalSig)
     ensures { let env = env_of plan.now in Shows env 0 (ret_ty env (sig_told env sig)) w.old w.new }
 {
     match sig.ret_kind {
@@ -129,7 +129,7 @@ fn ret_ty(w: &mut Sink<'_>, plan: &Plan<'_>, sig: ExternalSig)
 }
 
 // `generate_trait_sig` of codegen.rs 222.
-fn generate_trait_sig(w: &mut Sink<'_>, plan: &Plan<'_>, sig: ExternalSig)
+fn generate_trait_sig(w: &mut Sink<'_>, plan: &Plan<'_, '_, '_>, sig: ExternalSig)
     ensures { let env = env_of plan.now in Shows env 0 (generate_trait_sig env (sig_told env sig)) w.old w.new }
 {
     returns_type(w, plan, sig);
@@ -143,7 +143,7 @@ fn generate_trait_sig(w: &mut Sink<'_>, plan: &Plan<'_>, sig: ExternalSig)
 }
 
 #[tactic(auto, using(crate::specs::Shown::shown), unfolding(codegen::specs::Sema::is_external))]
-fn external_sig(w: &mut Sink<'_>, plan: &Plan<'_>, sig: ExternalSig)
+fn external_sig(w: &mut Sink<'_>, plan: &Plan<'_, '_, '_>, sig: ExternalSig)
     ensures { let env = env_of plan.now in Shows env 0 (external_sig env (function_told sig.func) (sig_told env sig)) w.old w.new }
 {
     if matches!(sig.func, FunctionKind::External { .. }) {
@@ -153,14 +153,14 @@ fn external_sig(w: &mut Sink<'_>, plan: &Plan<'_>, sig: ExternalSig)
 
 // A term has its external extractor before its constructor.
 #[tactic(auto, using(crate::specs::Shown::shown), unfolding(crate::specs::TraitParts::term_sig))]
-fn term_sig(w: &mut Sink<'_>, plan: &Plan<'_>, term: TermId)
+fn term_sig(w: &mut Sink<'_>, plan: &Plan<'_, '_, '_>, term: TermId)
     ensures { let env = env_of plan.now in Shows env 0 (term_sig env (term_at env term.0)) w.old w.new }
 {
     external_sig(w, plan, term.extractor_sig(plan));
     external_sig(w, plan, term.constructor_sig(plan));
 }
 
-fn term_sigs(w: &mut Sink<'_>, plan: &Plan<'_>)
+fn term_sigs(w: &mut Sink<'_>, plan: &Plan<'_, '_, '_>)
     ensures { let env = env_of plan.now in Shows env 0 (term_sigs env env.terms) w.old w.new }
 {
     for i in 0..plan.row_count(TERMS) {
@@ -262,7 +262,7 @@ impl<L: Length, C> Length for ContextIterWrapper<L, C> {
     w.put_bytes(b"           \n");
 }
 
-pub fn generate_ctx_trait(w: &mut Sink<'_>, plan: &Plan<'_>)
+pub fn generate_ctx_trait(w: &mut Sink<'_>, plan: &Plan<'_, '_, '_>)
     ensures { let env = env_of plan.now in Shows env 0 (generate_ctx_trait env) w.old w.new }
 {
     w.put_bytes(

@@ -1,5 +1,6 @@
 // `generate_internal_types` of codegen.rs 394, with `generate_fields`.
 ghost use Rattle.std.specs.Prelude.{◌≡◌, ℕ, suc, List, [], ◌∷◌};
+ghost use Rattle.text.specs.Writes.{SameSink};
 ghost use Rattle.plan.specs.Plan.{Environment, Field, named, tuple};
 ghost use Rattle.plan.specs.Lookup.{type_at, variants_of, variant_at};
 ghost use Rattle.view.specs.Buffers.{env_of};
@@ -42,7 +43,7 @@ impl WrittenFields<'_> {
         }
     }
 
-    fn named_field(&self, w: &mut Sink<'_>, plan: &Plan<'_>, i: usize)
+    fn named_field(&self, w: &mut Sink<'_>, plan: &Plan<'_, '_, '_>, i: usize)
         ensures { Shows (env_of plan.now) 0 (named_field self.now.allow_pub (fields_read self.now.fields) i) w.old w.new }
     {
         self.field_start(w);
@@ -52,7 +53,7 @@ impl WrittenFields<'_> {
         w.put_bytes(b",");
     }
 
-    fn named_fields(&self, w: &mut Sink<'_>, plan: &Plan<'_>)
+    fn named_fields(&self, w: &mut Sink<'_>, plan: &Plan<'_, '_, '_>)
         ensures { let a = self.now.allow_pub in (fs : List Field) → fields_read self.now.fields ≡ named fs → Shows (env_of plan.now) 0 (named_fields a (suc (depth a)) fs) w.old w.new }
     {
         for i in 0..self.fields.count() {
@@ -60,7 +61,7 @@ impl WrittenFields<'_> {
         }
     }
 
-    fn tuple_field(&self, w: &mut Sink<'_>, plan: &Plan<'_>, i: usize)
+    fn tuple_field(&self, w: &mut Sink<'_>, plan: &Plan<'_, '_, '_>, i: usize)
         ensures { Shows (env_of plan.now) 0 (tuple_field self.now.allow_pub (fields_read self.now.fields) i) w.old w.new }
     {
         put_separator(w, i);
@@ -70,7 +71,7 @@ impl WrittenFields<'_> {
         self.fields.ty(i).put_name(w, plan);
     }
 
-    fn tuple_fields(&self, w: &mut Sink<'_>, plan: &Plan<'_>)
+    fn tuple_fields(&self, w: &mut Sink<'_>, plan: &Plan<'_, '_, '_>)
         ensures { (ns : List ℕ) → fields_read self.now.fields ≡ tuple ns → Shows (env_of plan.now) 0 (join (tuple_fields self.now.allow_pub ns)) w.old w.new }
     {
         for i in 0..self.fields.count() {
@@ -90,7 +91,7 @@ impl WrittenFields<'_> {
     }
 
     // `generate_fields` of codegen.rs 473.
-    fn generate_fields(&self, w: &mut Sink<'_>, plan: &Plan<'_>)
+    fn generate_fields(&self, w: &mut Sink<'_>, plan: &Plan<'_, '_, '_>)
         ensures { let a = self.now.allow_pub in Shows (env_of plan.now) 0 (generate_fields a (depth a) (fields_read self.now.fields)) w.old w.new }
     {
         match self.fields.shape {
@@ -110,7 +111,7 @@ impl WrittenFields<'_> {
 }
 
 // Whether no variant of an enum has fields.
-fn all_unit(plan: &Plan<'_>, ty: TypeId) -> bool
+fn all_unit(plan: &Plan<'_, '_, '_>, ty: TypeId) -> bool
     ensures { VariantsIndexed plan.now → result ≡ all_unit (variants_of ty.0 (env_of plan.now).variants) }
 {
     (0..ty.variant_count(plan)).all(|k| ty.variant(plan, k).fields.shape == Shape::Unit)
@@ -132,7 +133,7 @@ fn put_derives(w: &mut Sink<'_>, copy: bool, nodebug: bool)
 }
 
 // The comment and the `derive`s.
-fn type_head(w: &mut Sink<'_>, plan: &Plan<'_>, d: Declared, copy: bool)
+fn type_head(w: &mut Sink<'_>, plan: &Plan<'_, '_, '_>, d: Declared, copy: bool)
     ensures { Shows (env_of plan.now) 0 (type_head (declared_told d) copy) w.old w.new }
 {
     w.put_bytes(b"\n/// Internal type ");
@@ -144,8 +145,9 @@ fn type_head(w: &mut Sink<'_>, plan: &Plan<'_>, d: Declared, copy: bool)
 }
 
 // The variant k of an enum.
-fn variant_line(w: &mut Sink<'_>, plan: &Plan<'_>, ty: TypeId, k: usize)
-    ensures { VariantsIndexed plan.now → let env = env_of plan.now in Shows env 0 (variant_line (variant_at env ty.0 k)) w.old w.new }
+fn variant_line(w: &mut Sink<'_>, plan: &Plan<'_, '_, '_>, ty: TypeId, k: usize)
+    ensures shows { VariantsIndexed plan.now → let env = env_of plan.now in Shows env 0 (variant_line (variant_at env ty.0 k)) w.old w.new }
+    ensures same { SameSink w.old w.new }
 {
     let v = ty.variant(plan, k);
     w.put_bytes(b"\n    ");
@@ -158,16 +160,18 @@ fn variant_line(w: &mut Sink<'_>, plan: &Plan<'_>, ty: TypeId, k: usize)
     w.put_bytes(b",");
 }
 
-fn variant_lines(w: &mut Sink<'_>, plan: &Plan<'_>, ty: TypeId)
-    ensures { VariantsIndexed plan.now → let env = env_of plan.now in Shows env 0 (variant_lines (variants_of ty.0 env.variants)) w.old w.new }
+fn variant_lines(w: &mut Sink<'_>, plan: &Plan<'_, '_, '_>, ty: TypeId)
+    ensures shows { VariantsIndexed plan.now → let env = env_of plan.now in Shows env 0 (variant_lines (variants_of ty.0 env.variants)) w.old w.new }
+    ensures same { SameSink w.old w.new }
 {
     for k in 0..ty.variant_count(plan) {
         variant_line(w, plan, ty, k);
     }
 }
 
-fn enum_type(w: &mut Sink<'_>, plan: &Plan<'_>, d: Declared, ty: TypeId)
-    ensures { VariantsIndexed plan.now → let env = env_of plan.now in Shows env 0 (enum_type (declared_told d) (variants_of ty.0 env.variants)) w.old w.new }
+fn enum_type(w: &mut Sink<'_>, plan: &Plan<'_, '_, '_>, d: Declared, ty: TypeId)
+    ensures shows { VariantsIndexed plan.now → let env = env_of plan.now in Shows env 0 (enum_type (declared_told d) (variants_of ty.0 env.variants)) w.old w.new }
+    ensures same { SameSink w.old w.new }
 {
     let copy = all_unit(plan, ty);
     type_head(w, plan, d, copy);
@@ -189,7 +193,7 @@ fn struct_end(w: &mut Sink<'_>, s: Shape)
     }
 }
 
-fn struct_type(w: &mut Sink<'_>, plan: &Plan<'_>, d: Declared, f: &Fields<'_>)
+fn struct_type(w: &mut Sink<'_>, plan: &Plan<'_, '_, '_>, d: Declared, f: &Fields<'_>)
     ensures { Shows (env_of plan.now) 0 (struct_type (declared_told d) (fields_read f.now)) w.old w.new }
 {
     type_head(w, plan, d, f.shape == Shape::Unit);
@@ -204,8 +208,9 @@ fn struct_type(w: &mut Sink<'_>, plan: &Plan<'_>, d: Declared, f: &Fields<'_>)
 }
 
 // External types are written elsewhere.
-fn internal_type(w: &mut Sink<'_>, plan: &Plan<'_>, ty: TypeId)
-    ensures { VariantsIndexed plan.now → let env = env_of plan.now in Shows env 0 (internal_type env ty.0 (type_at env ty.0)) w.old w.new }
+fn internal_type(w: &mut Sink<'_>, plan: &Plan<'_, '_, '_>, ty: TypeId)
+    ensures shows { VariantsIndexed plan.now → let env = env_of plan.now in Shows env 0 (internal_type env ty.0 (type_at env ty.0)) w.old w.new }
+    ensures same { SameSink w.old w.new }
 {
     let data = ty.data(plan);
     match data.ty {
@@ -228,8 +233,9 @@ fn internal_type(w: &mut Sink<'_>, plan: &Plan<'_>, ty: TypeId)
 }
 
 // The builtin types, which come first, write nothing.
-pub fn generate_internal_types(w: &mut Sink<'_>, plan: &Plan<'_>)
-    ensures { VariantsIndexed plan.now → let env = env_of plan.now in Shows env 0 (generate_internal_types env 0 env.types) w.old w.new }
+pub fn generate_internal_types(w: &mut Sink<'_>, plan: &Plan<'_, '_, '_>)
+    ensures shows { VariantsIndexed plan.now → let env = env_of plan.now in Shows env 0 (generate_internal_types env 0 env.types) w.old w.new }
+    ensures same { SameSink w.old w.new }
 {
     for n in BuiltinType::COUNT..BuiltinType::COUNT + plan.row_count(TYPES) {
         internal_type(w, plan, TypeId(n));

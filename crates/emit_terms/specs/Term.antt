@@ -62,7 +62,7 @@ module _ (p : Plan) where
 
 pub walk_parts : {env : Environment} {c : block.Body} {sp : ℕ → Bool} {s : State} {i : ℕ} {rs : List Row} {w : Sink} {q : Marks} {w' : Sink} → WritesWalk env c sp s i rs w q w' → WritesParts env (walk c sp (with_refs s q) i rs) w w'
 unfolding run_walk run_parts
-walk_parts {env} {c} {sp} {s} {i} {rs} {w} {q} {w'} x = record { buffer = x.buffer; end = x.end; parts = record { is = x.walk.is ∙ by_test (ltb w.at w.end) (ltb w.odd w.end) refl refl } }
+walk_parts {env} {c} {sp} {s} {i} {rs} {w} {q} {w'} x = record { buffer = x.buffer; size = x.size; end = x.end; parts = record { is = x.walk.is ∙ by_test (ltb w.at w.end) (ltb w.odd w.end) refl refl } }
   where
     by_test : (a b : Bool) → ltb w.at w.end ≡ a → ltb w.odd w.end ≡ b
         → run_walk w.end env c sp s i rs (place w.end w.out.now w.at w.odd q) ≡ run_parts {S = Unit {0}} w.end env (walk c sp (with_refs s q) i rs) tt (place w.end w.out.now w.at w.odd tt)
@@ -105,6 +105,7 @@ module _ {b : Body} {block : ℕ} {sig : ExternalSig} {s : BodyContext} {first l
   body_written : (m : ℕ) → m ≤ 64 → (Each (λ r. level r < 64) (block_in b.bindings.plan.now block) → Each (λ r. level r < m) (block_in b.bindings.plan.now block)) → BlockWritten b first last (m + 1) s.is_ref s.is_bound w w' → BodyWritten b block sig w w'
   unfolding start with_refs standing
   body_written m u e x = record {
+    same = x.same;
     is = λ sp n v f y h.
         let shallow : Shallow b.bindings.plan.now.words.now b.bindings.plan.now.rows.now first last (m + 1) = shallow_rows _ _ first last m u (rw q (e f.shallow)) in
         let refs : set_of s.is_ref ≡ argument_refs (env_in b) (bindings_of b) 0 (term_at (env_in b) n).arg_tys no_marks = st.refs ∙ ap (λ (ts : List ℕ). argument_refs (env_in b) (bindings_of b) 0 ts no_marks) (arguments_are _ _ h) in

@@ -1,6 +1,7 @@
 -- What the options, the marks where a term's block begins and its `Body` say in the definition's terms. Assumes nothing: these are
 -- definitions.
 use Rattle.std.specs.Prelude.{ℕ, ◌≡◌, Bool, cond, ltb, List, map, Some, None}
+use Rattle.text.specs.Writes.{SameSink}
 use Rattle.text.specs.declared.sink.Sink.{Sink}
 use Rattle.plan.specs.Plan as plan
 use Rattle.plan.specs.Plan.{Generated}
@@ -48,7 +49,9 @@ block_in p block = map block_of (rows_of p block)
 abbrev pub term_in : Body → ℕ → ℕ → Generated
 term_in b n block = record { term = n; bindings = bindings_of b; rows = block_in b.bindings.plan.now block }
 
--- the block in this table is written, for a generated term with this signature
+-- the block in this table is written, for a generated term with this signature; that the lent buffer and the room are the same holds
+-- whatever the plan is
 pub record BodyWritten (b : Body) (block : ℕ) (sig : ExternalSig) (w w' : Sink) : Type 0 where
+  pub same : SameSink w w'
   pub is : (splits : ℕ → Bool) (n : ℕ) → VariantsIndexed b.bindings.plan.now → TermFits (term_in b n block) → Splitting splits b.threshold → sig_told (env_in b) sig ≡ constructor_sig (term_at (env_in b) n)
       → WritesParts (env_in b) (walk (body_told b) splits (start (env_in b) (term_in b n block)) 0 (block_in b.bindings.plan.now block)) w w'

@@ -30,7 +30,7 @@ fn begin_body(bindings: &Bindings<'_>, sig: ExternalSig) -> BodyContext
 
 // Is each level of a block below 8?
 #[tactic(auto, using(crate::specs::Term::few_rows))]
-fn is_shallow(plan: &Plan<'_>, block: usize) -> bool
+fn is_shallow(plan: &Plan<'_, '_, '_>, block: usize) -> bool
     ensures { result ≡ every below_eight (block_in plan.now block) }
 {
     all_rows(plan, block, |r| plan.word(r, 0) < 8)

@@ -19,7 +19,7 @@ pub struct Options {
 impl Options {
     // They are the row of the plan's first table, each read by its number in the row, in the order of the table's names line.
     #[tactic(auto, using(crate::specs::Term::options_told))]
-    pub fn read(plan: &Plan<'_>) -> Options
+    pub fn read(plan: &Plan<'_, '_, '_>) -> Options
         ensures { OptionsTold (plan_of plan.now).options result }
     {
         let row = plan.row_at(OPTIONS, 0);

@@ -1,6 +1,6 @@
 // Whole terms, one after the other.
 ghost use Rattle.std.specs.Prelude.{◌≡◌, ℕ, [], get_or};
-ghost use Rattle.text.specs.Writes.{Writes};
+ghost use Rattle.text.specs.Writes.{SameSink, Writes};
 ghost use Rattle.plan.specs.Plan as definition;
 ghost use Rattle.plan.specs.Lookup.{term_at};
 ghost use Rattle.codegen.specs.Sema.{constructor_sig};
@@ -29,15 +29,16 @@ use view::buffers::Plan;
 use view::tables::TERMS;
 
 // The word k of row n of table t. Single cells are read by their number in the row, in the order of the table's names line.
-fn table_word(plan: &Plan<'_>, t: usize, n: usize, k: usize) -> usize
+fn table_word(plan: &Plan<'_, '_, '_>, t: usize, n: usize, k: usize) -> usize
     ensures { result ≡ nth (get_or (rows_of plan.now t) n []) k }
 {
     plan.word(plan.row_at(t, n), k)
 }
 
 // The signature of a term.
-pub fn emit_signature(w: &mut Sink<'_>, plan: &Plan<'_>, sig: ExternalSig, name: usize)
-    ensures { (term : ℕ) → let env = env_of plan.now in let m = term_at env term in sig_told env sig ≡ constructor_sig m → name ≡ m.name → Writes (text_of env (signature env m)) w.old w.new }
+pub fn emit_signature(w: &mut Sink<'_>, plan: &Plan<'_, '_, '_>, sig: ExternalSig, name: usize)
+    ensures written { (term : ℕ) → let env = env_of plan.now in let m = term_at env term in sig_told env sig ≡ constructor_sig m → name ≡ m.name → Writes (text_of env (signature env m)) w.old w.new }
+    ensures same { SameSink w.old w.new }
 {
     put_head(w, plan, name, sig);
     put_arguments(w, plan, sig);
@@ -47,7 +48,8 @@ pub fn emit_signature(w: &mut Sink<'_>, plan: &Plan<'_>, sig: ExternalSig, name:
 // The last lines of a term, whose block is in a table.
 #[tactic(auto, using(crate::specs::Term::end_written, crate::specs::Term::term_pos, checks::specs::Terms::block_rows))]
 fn emit_end(w: &mut Sink<'_>, body: &Body<'_>, block: usize, term: TermId)
-    ensures { let b = body.now in let m = term_at (env_in b) term.0 in (constructor_sig m).ret_kind ≡ return_kind_told b.ret_kind → b.term_name ≡ m.name → Writes (text_of (env_in b) (term_end m (block_in b.bindings.plan.now block))) w.old w.new }
+    ensures written { let b = body.now in let m = term_at (env_in b) term.0 in (constructor_sig m).ret_kind ≡ return_kind_told b.ret_kind → b.term_name ≡ m.name → Writes (text_of (env_in b) (term_end m (block_in b.bindings.plan.now block))) w.old w.new }
+    ensures same { SameSink w.old w.new }
 {
     let plan = body.bindings.plan;
     let rows = plan.row_range(block);
@@ -57,8 +59,14 @@ fn emit_end(w: &mut Sink<'_>, body: &Body<'_>, block: usize, term: TermId)
 }
 
 // The generated term that these tables hold.
-pub fn emit_term(w: &mut Sink<'_>, plan: &Plan<'_>, options: Options, tables: GeneratedTables)
-    ensures { let g = generated_of plan.now tables in (o : definition.Options) → VariantsIndexed plan.now → OptionsTold o options → TermFits g → WritesParts (env_of plan.now) (term_parts o (env_of plan.now) g) w.old w.new }
+pub fn emit_term(
+    w: &mut Sink<'_>,
+    plan: &Plan<'_, '_, '_>,
+    options: Options,
+    tables: GeneratedTables,
+)
+    ensures written { let g = generated_of plan.now tables in (o : definition.Options) → VariantsIndexed plan.now → OptionsTold o options → TermFits g → WritesParts (env_of plan.now) (term_parts o (env_of plan.now) g) w.old w.new }
+    ensures same { SameSink w.old w.new }
 {
     let term = TermId(tables.number(plan));
     let name = table_word(plan, TERMS, term.0, 0);
@@ -79,8 +87,9 @@ pub fn emit_term(w: &mut Sink<'_>, plan: &Plan<'_>, options: Options, tables: Ge
 }
 
 // All generated terms.
-pub fn generate_internal_term_constructors(w: &mut Sink<'_>, plan: &Plan<'_>)
-    ensures { VariantsIndexed plan.now → PlanFits (plan_of plan.now) → WritesParts (env_of plan.now) (parts (plan_of plan.now)) w.old w.new }
+pub fn generate_internal_term_constructors(w: &mut Sink<'_>, plan: &Plan<'_, '_, '_>)
+    ensures written { VariantsIndexed plan.now → PlanFits (plan_of plan.now) → WritesParts (env_of plan.now) (parts (plan_of plan.now)) w.old w.new }
+    ensures same { SameSink w.old w.new }
 {
     let options = Options::read(plan);
     for i in 0..generated_count(plan) {

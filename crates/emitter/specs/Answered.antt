@@ -1,5 +1,6 @@
 -- What the entries answer, as document 01's number, length and count, and what they promise. Assumes nothing: these are definitions.
-use Rattle.std.specs.Prelude.{ℕ, ◌≡◌, Bool, true, false, List, [], ◌∷◌, ◌++◌, eqb, drop, Result, Ok, Err}
+use Rattle.std.specs.Prelude.{ℕ, ◌≡◌, refl, Bool, true, false, List, [], ◌∷◌, ◌++◌, eqb, drop, Result, Ok, Err}
+use Rattle.std.proofs.Common.{◌∙◌}
 use Rattle.std.proofs.lemmas.List.Edits.{sets}
 use Rattle.plan.specs.Refusal.{outcome}
 use Rattle.codegen.specs.Piece.{render}
@@ -55,3 +56,6 @@ pub record Exports (a : Answer) (number : ℕ) (before after told told' : List �
   pub numbered : number ≡ a.number
   pub bytes : after ≡ a.text ++ drop a.length before
   pub values : told' ≡ sets told 0 (a.length ∷ a.count ∷ [])
+
+pub exports : {a : Answer} {r : Emitted} {before after told told' : List ℕ} {n : ℕ} → Answers a r before after → n ≡ number_of r → told' ≡ sets told 0 (length_of r ∷ count_of r ∷ []) → Exports a n before after told told'
+exports p q v = record { numbered = q ∙ p.number; bytes = p.bytes; values = v ∙ (rw (p.length, p.count) refl) }

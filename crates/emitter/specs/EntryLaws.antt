@@ -51,12 +51,13 @@ module _ (p : Plan) {w w' : Sink} where
   terms_written x = parts_written x
 
   pub items_written : Starts w → Shows p.env 0 (items p) w w' → WritesText (render p.env 0 (items p)) 0 w w'
-  items_written h q = record { buffer = q.is.buffer; end = q.is.end; texts = rw (q.is.odd, h.odd, h.at) (texts_puts (rw h.at at q.is.puts)) }
+  items_written h q = record { buffer = q.is.buffer; size = q.is.size; end = q.is.end; texts = rw (q.is.odd, h.odd, h.at) (texts_puts (rw h.at at q.is.puts)) }
 
   pub whole_written : {w₁ : Sink} → Starts w → Shows p.env 0 (items p) w w₁ → WritesText (terms_text p) (odds p) w₁ w' → WritesText (whole_text p) (odds p) w w'
   unfolding whole_text
   whole_written h q r = record {
     buffer = r.buffer ∙ q.is.buffer;
+    size = r.size ∙ q.is.size;
     end = r.end ∙ q.is.end;
     texts = rw (h.at, h.odd) (puts_texts (rw h.at at q.is.puts) (rw (q.is.end, q.is.odd, h.odd) at r.texts));
   }

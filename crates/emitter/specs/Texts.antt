@@ -101,12 +101,13 @@ pub record Starts (w : Sink) : Type 0 where
 -- the text t, of which k literals are odd; the lent buffer and the room are the same
 pub record WritesText (t : List ℕ) (k : ℕ) (w w' : Sink) : Type 0 where
   pub buffer : w'.out.ghost_name ≡ w.out.ghost_name
+  pub size : length w'.out.now ≡ length w.out.now
   pub end : w'.end ≡ w.end
   pub texts : Texts w.end t k w.out.now w.at w.odd w'.out.now w'.at w'.odd
 
 -- parts are their text
 pub parts_written : {env : Environment} {ps : List Part} {w w' : Sink} → WritesParts env ps w w' → WritesText (text_of env ps) (odds_of ps) w w'
-parts_written x = record { buffer = x.buffer; end = x.end; texts = texts_parts x.parts }
+parts_written x = record { buffer = x.buffer; size = x.size; end = x.end; texts = texts_parts x.parts }
 
 -- a text that was put from a buffer's start: its length and count, where it fits the room, and then, where it fits the buffer too, it stands there
 pub record Measured (t : List ℕ) (k room : ℕ) (o o' : List ℕ) (r : Option Text) : Type 0 where

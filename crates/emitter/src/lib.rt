@@ -17,7 +17,7 @@ ghost use Rattle.emitter.specs.Texts.{Starts, WritesText, Measured};
 use emit_terms::term::generate_internal_term_constructors;
 use layout::{Buffers, Filled};
 use refusal::Refusal;
-use text::sink::Sink;
+use text::sink::{Sink, store};
 use view::buffers::Plan;
 
 // A text that is written: its length, and how many of its literals are odd.
@@ -58,7 +58,7 @@ pub enum Form {
 
 // `generate_rust` of codegen.rs 176, or a part of it. A closure in place of the form would say which at each entry, and no less; and
 // what calls this would be compiled once for each closure.
-fn put_text(w: &mut Sink<'_>, form: Form, plan: &Plan<'_>)
+fn put_text(w: &mut Sink<'_>, form: Form, plan: &Plan<'_, '_, '_>)
     ensures { (p : definition.Plan) → HeldIn p plan.now → Starts w.old → WritesText (form_text form p) (form_count form p) w.old w.new }
 {
     match form {
@@ -72,7 +72,7 @@ fn put_text(w: &mut Sink<'_>, form: Form, plan: &Plan<'_>)
 }
 
 // Puts the text into a buffer from its start: its length and count, where it fits the room.
-fn put_measured(out: &mut [u8], room: usize, form: Form, plan: &Plan<'_>) -> Option<Text>
+fn put_measured(out: &mut [u8], room: usize, form: Form, plan: &Plan<'_, '_, '_>) -> Option<Text>
     requires { room < 18446744073709551615 }
     ensures within { IfSome result (λ t. t.length ≤ room) }
     ensures measured { (p : definition.Plan) → HeldIn p plan.now → Measured (form_text form p) (form_count form p) room out.old out.new result }
@@ -87,11 +87,11 @@ fn put_measured(out: &mut [u8], room: usize, form: Form, plan: &Plan<'_>) -> Opt
 }
 
 // The answer for a plan that is accepted. The text is measured as it is put into a draft; where the draft has all of it, it is
-// copied from there.
+// copied from there: by `copy_from_slice` the library for C would need `memmove`.
 fn answer_held(
     out: &mut [u8],
     form: Form,
-    plan: &Plan<'_>,
+    plan: &Plan<'_, '_, '_>,
     draft: &mut [u8],
 ) -> Result<Text, Refusal>
     ensures { (p : definition.Plan) → HeldIn p plan.now → Answers (answer_in form (length out.old) (accepted p)) result out.old out.new }
@@ -99,7 +99,7 @@ fn answer_held(
     let room = out.len();
     let text = put_measured(draft, room, form, plan).ok_or(Refusal::Room)?;
     if text.length <= draft.len() {
-        out[..text.length].copy_from_slice(&draft[..text.length]);
+        store(out, 0, &draft[..text.length]);
     } else {
         let _ = put_measured(out, room, form, plan);
     }
@@ -152,8 +152,9 @@ fn answer_with<const WORDS: usize, const ROWS: usize, const TABLES: usize, const
 }
 
 // Buffers that are long enough for each plan take longer to clear than a small plan to answer. Short and long plans have a function
-// each, which all entries call: so neither is compiled into them, and a short plan touches no stack that long buffers take. What they
+// each, which is not compiled into what calls it, so that a short plan touches no stack that long buffers take. What they
 // are given, the plan, the buffer and the form, is an entry's: a struct of the three would be made at each entry, to be taken apart here.
+#[inline(never)]
 fn answer_short(plan: &[u8], out: &mut [u8], form: Form) -> Result<Text, Refusal>
     requires { length plan.now ≤ 2048 }
     ensures { Answers (form_answer form plan.now (length out.old)) result out.old out.new }
@@ -164,6 +165,7 @@ fn answer_short(plan: &[u8], out: &mut [u8], form: Form) -> Result<Text, Refusal
     answer_with::<2048, 1025, 513, 16384>(plan, out, form)
 }
 
+#[inline(never)]
 fn answer_long(plan: &[u8], out: &mut [u8], form: Form) -> Result<Text, Refusal>
     ensures { Answers (form_answer form plan.now (length out.old)) result out.old out.new }
 {

@@ -42,7 +42,7 @@ pub fn read(
 }
 
 // How many rows table t has.
-pub fn row_count(plan: &Plan<'_>, t: usize) -> usize
+pub fn row_count(plan: &Plan<'_, '_, '_>, t: usize) -> usize
     ensures own { (result ≡ length (rows_of plan.now t)) × (result < 4294967296) }
     ensures any { (words rows : List ℕ) → result ≡ length (table_rows words rows plan.now.tables.now t) }
 {
@@ -50,7 +50,7 @@ pub fn row_count(plan: &Plan<'_>, t: usize) -> usize
 }
 
 // The number of row i of table t; where the table has no such row, a number that no row has.
-pub fn row_at(plan: &Plan<'_>, t: usize, i: usize) -> usize
+pub fn row_at(plan: &Plan<'_, '_, '_>, t: usize, i: usize) -> usize
     ensures own { words_of plan.now result ≡ get_or (rows_of plan.now t) i [] }
     ensures any { (words : List ℕ) → let p = plan.now in cut words p.rows.now result ≡ get_or (table_rows words p.rows.now p.tables.now t) i [] }
 {
@@ -58,63 +58,63 @@ pub fn row_at(plan: &Plan<'_>, t: usize, i: usize) -> usize
 }
 
 // The word k of row r.
-pub fn word(plan: &Plan<'_>, r: usize, k: usize) -> usize
+pub fn word(plan: &Plan<'_, '_, '_>, r: usize, k: usize) -> usize
     ensures { result ≡ nth (words_of plan.now r) k }
 {
     plan.word(r, k)
 }
 
 // The list of row r, which stands after `header` words.
-pub fn list<'a>(plan: &Plan<'a>, r: usize, header: usize) -> &'a [u32]
+pub fn list<'w>(plan: &Plan<'_, 'w, '_>, r: usize, header: usize) -> &'w [u32]
     ensures { result.now ≡ drop header (words_of plan.now r) }
 {
     plan.list(r, header)
 }
 
 // The text of row r, whose words are its start and its end in the plan.
-pub fn text_at<'a>(plan: &Plan<'a>, r: usize) -> &'a [u8]
+pub fn text_at<'p>(plan: &Plan<'p, '_, '_>, r: usize) -> &'p [u8]
     ensures { result.now ≡ text_of plan.now.bytes.now (words_of plan.now r) }
 {
     plan.text_at(r)
 }
 
 // The type of row r; its fields are the list after five words.
-pub fn type_at(plan: &Plan<'_>, r: usize) -> TypeData
+pub fn type_at(plan: &Plan<'_, '_, '_>, r: usize) -> TypeData
     ensures { type_told result (drop 5 (words_of plan.now r)) ≡ type_of (words_of plan.now r) }
 {
     plan.type_at(r)
 }
 
 // The variant of row r; its fields are the list after three words.
-pub fn variant_at(plan: &Plan<'_>, r: usize) -> Variant
+pub fn variant_at(plan: &Plan<'_, '_, '_>, r: usize) -> Variant
     ensures { variant_told result (drop 3 (words_of plan.now r)) ≡ variant_of (words_of plan.now r) }
 {
     plan.variant_at(r)
 }
 
 // The term of row r; the types of its arguments are the list after eight words.
-pub fn term_at(plan: &Plan<'_>, r: usize) -> Term
+pub fn term_at(plan: &Plan<'_, '_, '_>, r: usize) -> Term
     ensures { term_told result (drop 8 (words_of plan.now r)) ≡ term_of (words_of plan.now r) }
 {
     plan.term_at(r)
 }
 
 // The binding of row r; its sources are the list after six words.
-pub fn binding_at(plan: &Plan<'_>, r: usize) -> Binding
+pub fn binding_at(plan: &Plan<'_, '_, '_>, r: usize) -> Binding
     ensures { binding_told result ≡ (binding_of (words_of plan.now r)).binding }
 {
     plan.binding_at(r)
 }
 
 // What row r, a step, does; its `bind_order` is the list after seven words.
-pub fn control_flow_at(plan: &Plan<'_>, r: usize) -> ControlFlow
+pub fn control_flow_at(plan: &Plan<'_, '_, '_>, r: usize) -> ControlFlow
     ensures { control_flow_told result ≡ control_flow_of (words_of plan.now r) }
 {
     plan.control_flow_at(r)
 }
 
 // What row r, an arm, asks; its bindings are the list after seven words.
-pub fn constraint_at(plan: &Plan<'_>, r: usize) -> Constraint
+pub fn constraint_at(plan: &Plan<'_, '_, '_>, r: usize) -> Constraint
     ensures { constraint_told result ≡ constraint_of (words_of plan.now r) }
 {
     plan.constraint_at(r)
@@ -122,21 +122,21 @@ pub fn constraint_at(plan: &Plan<'_>, r: usize) -> Constraint
 
 // How many arms a match of a level has, of the rows from row `from` up to row `end`. This and the next two publish
 // those of `weights`.
-pub fn arm_count(plan: &Plan<'_>, level: usize, from: usize, end: usize) -> usize
+pub fn arm_count(plan: &Plan<'_, '_, '_>, level: usize, from: usize, end: usize) -> usize
     ensures { result ≡ arm_count level (rows_between plan.now from end) }
 {
     weights::arm_count(plan, level, from, end)
 }
 
 // How much the rows below a row of a level weigh, of the rows from row `from` up to row `end`: the steps among them.
-pub fn block_weight(plan: &Plan<'_>, level: usize, from: usize, end: usize) -> usize
+pub fn block_weight(plan: &Plan<'_, '_, '_>, level: usize, from: usize, end: usize) -> usize
     ensures { result ≡ block_weight level (rows_between plan.now from end) }
 {
     weights::block_weight(plan, level, from, end)
 }
 
 // How many rows stand below row r, of the rows up to row `end`: those after it, up to the next row of its level or a lower one.
-pub fn rows_below(plan: &Plan<'_>, r: usize, end: usize) -> usize
+pub fn rows_below(plan: &Plan<'_, '_, '_>, r: usize, end: usize) -> usize
     ensures { result ≡ length (rows_below (level (block_of (words_of plan.now r))) (rows_between plan.now (r + 1) end)) }
 {
     weights::rows_below(plan, r, end)

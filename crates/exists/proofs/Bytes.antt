@@ -168,6 +168,15 @@ module _ (p : Plan) (bytes : List ℕ) where
   pub extractor_any : (n : ℕ) → extractor_exists (env_with bytes p) n ≡ extractor_exists (env_of p) n
   extractor_any n = extractor_same _ _ (env_alike p bytes) n
 
+  pub type_any : (t : TypeData) → type_refers (env_with bytes p) t ≡ type_refers (env_of p) t
+  type_any t = type_same _ _ (env_alike p bytes) t
+
+  pub variant_any : (v : Variant) → variant_refers (env_with bytes p) v ≡ variant_refers (env_of p) v
+  variant_any v = variant_refers_same _ _ (env_alike p bytes) v
+
+  pub term_any : (m : Term) → term_refers (env_with bytes p) m ≡ term_refers (env_of p) m
+  term_any m = term_same _ _ (env_alike p bytes) m
+
   pub exist_any : all_exist (plan_with bytes p) ≡ all_exist (plan_of p)
   unfolding all_exist
   exist_any = rw (

@@ -17,7 +17,7 @@ use view::heads::TERM_HEAD;
 use view::tables::{POSS, SYMS, TERMS, TYPES};
 
 #[tactic(auto, using(view::proofs::Plans::syms_count))]
-pub fn sym_count(plan: &Plan<'_>) -> usize
+pub fn sym_count(plan: &Plan<'_, '_, '_>) -> usize
     ensures own { result ≡ length (env_of plan.now).syms }
     ensures any { (bytes words rows : List ℕ) → result ≡ length (environment_in bytes words rows plan.now.tables.now).syms }
 {
@@ -25,7 +25,7 @@ pub fn sym_count(plan: &Plan<'_>) -> usize
 }
 
 #[tactic(auto, using(view::proofs::Plans::poss_count))]
-pub fn pos_count(plan: &Plan<'_>) -> usize
+pub fn pos_count(plan: &Plan<'_, '_, '_>) -> usize
     ensures own { result ≡ length (env_of plan.now).poss }
     ensures any { (bytes words rows : List ℕ) → result ≡ length (environment_in bytes words rows plan.now.tables.now).poss }
 {
@@ -33,7 +33,7 @@ pub fn pos_count(plan: &Plan<'_>) -> usize
 }
 
 #[tactic(auto, using(view::proofs::Plans::types_count))]
-pub fn type_count(plan: &Plan<'_>) -> usize
+pub fn type_count(plan: &Plan<'_, '_, '_>) -> usize
     ensures own { result ≡ length (env_of plan.now).types }
     ensures any { (bytes words rows : List ℕ) → result ≡ length (environment_in bytes words rows plan.now.tables.now).types }
 {
@@ -41,7 +41,7 @@ pub fn type_count(plan: &Plan<'_>) -> usize
 }
 
 #[tactic(auto, using(view::proofs::Plans::terms_count))]
-pub fn term_count(plan: &Plan<'_>) -> usize
+pub fn term_count(plan: &Plan<'_, '_, '_>) -> usize
     ensures own { result ≡ length (env_of plan.now).terms }
     ensures any { (bytes words rows : List ℕ) → result ≡ length (environment_in bytes words rows plan.now.tables.now).terms }
 {
@@ -50,14 +50,14 @@ pub fn term_count(plan: &Plan<'_>) -> usize
 
 // How many arguments the term m has.
 #[tactic(auto, using(view::proofs::Plans::term_is), unfolding(rows::specs::View::term_of))]
-pub(crate) fn argument_count(plan: &Plan<'_>, m: usize) -> usize
+pub(crate) fn argument_count(plan: &Plan<'_, '_, '_>, m: usize) -> usize
     ensures { result ≡ length (term_at (env_of plan.now) m).arg_tys }
 {
     plan.list(plan.row_at(TERMS, m), TERM_HEAD).len()
 }
 
 // The type n, if the plan declares it; its fields are in its row's list.
-fn declared_type(plan: &Plan<'_>, n: usize) -> Option<TypeData>
+fn declared_type(plan: &Plan<'_, '_, '_>, n: usize) -> Option<TypeData>
     ensures { Declares (env_of plan.now) n result }
 {
     let r = plan.type_row(n)?;
@@ -65,7 +65,7 @@ fn declared_type(plan: &Plan<'_>, n: usize) -> Option<TypeData>
 }
 
 // Whether the type n is an enum.
-pub fn enum_exists(plan: &Plan<'_>, n: usize) -> bool
+pub fn enum_exists(plan: &Plan<'_, '_, '_>, n: usize) -> bool
     ensures own { result ≡ enum_exists (env_of plan.now) n }
     ensures any { (bytes : List ℕ) → let p = plan.now in result ≡ enum_exists (environment_in bytes p.words.now p.rows.now p.tables.now) n }
 {
@@ -73,7 +73,7 @@ pub fn enum_exists(plan: &Plan<'_>, n: usize) -> bool
 }
 
 // Whether the type n is a struct.
-pub fn struct_exists(plan: &Plan<'_>, n: usize) -> bool
+pub fn struct_exists(plan: &Plan<'_, '_, '_>, n: usize) -> bool
     ensures own { result ≡ struct_exists (env_of plan.now) n }
     ensures any { (bytes : List ℕ) → let p = plan.now in result ≡ struct_exists (environment_in bytes p.words.now p.rows.now p.tables.now) n }
 {
@@ -96,7 +96,7 @@ fn is_present(f: FunctionKind) -> bool
 }
 
 // Whether the term n exists, with the function that the word k of its row says.
-fn has_function(plan: &Plan<'_>, n: usize, k: usize) -> bool
+fn has_function(plan: &Plan<'_, '_, '_>, n: usize, k: usize) -> bool
     ensures { result ≡ (ltb n (length (env_of plan.now).terms) && is_present (function_of (nth (get_or (rows_of plan.now 6) n []) k))) }
 {
     n < term_count(plan) && is_present(plan.function_kind_at(plan.row_at(TERMS, n), k))
@@ -104,7 +104,7 @@ fn has_function(plan: &Plan<'_>, n: usize, k: usize) -> bool
 
 // Whether the term n has a constructor.
 #[tactic(auto, using(crate::proofs::Bytes::constructor_any, view::proofs::Plans::term_is), unfolding(rows::specs::View::term_of))]
-pub fn constructor_exists(plan: &Plan<'_>, n: usize) -> bool
+pub fn constructor_exists(plan: &Plan<'_, '_, '_>, n: usize) -> bool
     ensures own { result ≡ constructor_exists (env_of plan.now) n }
     ensures any { (bytes : List ℕ) → let p = plan.now in result ≡ constructor_exists (environment_in bytes p.words.now p.rows.now p.tables.now) n }
 {
@@ -113,7 +113,7 @@ pub fn constructor_exists(plan: &Plan<'_>, n: usize) -> bool
 
 // Whether the term n has an extractor.
 #[tactic(auto, using(crate::proofs::Bytes::extractor_any, view::proofs::Plans::term_is), unfolding(rows::specs::View::term_of))]
-pub fn extractor_exists(plan: &Plan<'_>, n: usize) -> bool
+pub fn extractor_exists(plan: &Plan<'_, '_, '_>, n: usize) -> bool
     ensures own { result ≡ extractor_exists (env_of plan.now) n }
     ensures any { (bytes : List ℕ) → let p = plan.now in result ≡ extractor_exists (environment_in bytes p.words.now p.rows.now p.tables.now) n }
 {

@@ -13,7 +13,7 @@ use view::environment::{Declared, FunctionKind, TypeData};
 use view::heads::{TERM_HEAD, TYPE_HEAD, VARIANT_HEAD};
 
 // Whether all that a shape's fields name exists; they are in a row's list.
-fn fields_exist(plan: &Plan<'_>, s: Shape, list: &[u32]) -> bool
+fn fields_exist(plan: &Plan<'_, '_, '_>, s: Shape, list: &[u32]) -> bool
     ensures { result ≡ fields_exist (env_of plan.now) (fields_told s list.now) }
 {
     match s {
@@ -23,7 +23,7 @@ fn fields_exist(plan: &Plan<'_>, s: Shape, list: &[u32]) -> bool
     }
 }
 
-fn declared_exists(plan: &Plan<'_>, d: Declared) -> bool
+fn declared_exists(plan: &Plan<'_, '_, '_>, d: Declared) -> bool
     ensures { result ≡ declared_exists (env_of plan.now) (declared_told d) }
 {
     d.name < sym_count(plan) && d.pos < pos_count(plan)
@@ -31,7 +31,7 @@ fn declared_exists(plan: &Plan<'_>, d: Declared) -> bool
 
 // Whether all that the type of row r names exists.
 #[tactic(auto, unfolding(plan::specs::Refusal::type_refers))]
-pub(crate) fn type_refers(plan: &Plan<'_>, r: usize) -> bool
+pub(crate) fn type_refers(plan: &Plan<'_, '_, '_>, r: usize) -> bool
     ensures { result ≡ type_refers (env_of plan.now) (type_of (words_of plan.now r)) }
 {
     match plan.type_at(r) {
@@ -45,7 +45,7 @@ pub(crate) fn type_refers(plan: &Plan<'_>, r: usize) -> bool
 
 // The same of the variant of row r.
 #[tactic(auto, unfolding(plan::specs::Refusal::variant_refers, rows::specs::View::variant_of))]
-pub(crate) fn variant_refers(plan: &Plan<'_>, r: usize) -> bool
+pub(crate) fn variant_refers(plan: &Plan<'_, '_, '_>, r: usize) -> bool
     ensures { result ≡ variant_refers (env_of plan.now) (variant_of (words_of plan.now r)) }
 {
     let v = plan.variant_at(r);
@@ -54,7 +54,7 @@ pub(crate) fn variant_refers(plan: &Plan<'_>, r: usize) -> bool
         && fields_exist(plan, v.shape, plan.list(r, VARIANT_HEAD))
 }
 
-fn function_exists(plan: &Plan<'_>, f: FunctionKind) -> bool
+fn function_exists(plan: &Plan<'_, '_, '_>, f: FunctionKind) -> bool
     ensures { result ≡ function_exists (env_of plan.now) (function_told f) }
 {
     match f {
@@ -65,7 +65,7 @@ fn function_exists(plan: &Plan<'_>, f: FunctionKind) -> bool
 
 // The same of the term of row r.
 #[tactic(auto, unfolding(plan::specs::Refusal::term_refers, rows::specs::View::term_of))]
-pub(crate) fn term_refers(plan: &Plan<'_>, r: usize) -> bool
+pub(crate) fn term_refers(plan: &Plan<'_, '_, '_>, r: usize) -> bool
     ensures { result ≡ term_refers (env_of plan.now) (term_of (words_of plan.now r)) }
 {
     let types = type_count(plan);

@@ -56,7 +56,7 @@ fn constraint_refers(indexed: &Indexed<'_>, c: Constraint) -> bool
 
 // Whether all that a step names exists, its `bind_order` aside; n is the number of bindings.
 #[tactic(auto, unfolding(plan::specs::Refusal::control_flow_refers))]
-fn control_flow_refers(plan: &Plan<'_>, n: usize, c: ControlFlow) -> bool
+fn control_flow_refers(plan: &Plan<'_, '_, '_>, n: usize, c: ControlFlow) -> bool
     ensures { result ≡ control_flow_refers (env_of plan.now) n (control_flow_told c) }
 {
     match c {

@@ -20,7 +20,7 @@ use view::tables::VARIANTS;
 
 // How many fields the type n has. A `match`: `map_or` was tried, but says nothing of what a closure answers that holds the plan.
 #[tactic(auto, using(crate::proofs::Sorts::fields_undeclared))]
-fn struct_fields(plan: &Plan<'_>, n: usize) -> usize
+fn struct_fields(plan: &Plan<'_, '_, '_>, n: usize) -> usize
     ensures { result ≡ field_count (fields_of (type_at (env_of plan.now) n)) }
 {
     match plan.type_row(n) {
@@ -30,7 +30,7 @@ fn struct_fields(plan: &Plan<'_>, n: usize) -> usize
 }
 
 // How many fields the variant k of a type has that has no place in the index.
-fn scan_fields(plan: &Plan<'_>, n: usize, k: usize) -> usize
+fn scan_fields(plan: &Plan<'_, '_, '_>, n: usize, k: usize) -> usize
     ensures { result ≡ field_count (variant_at (env_of plan.now) n k).fields }
 {
     plan.row_range(VARIANTS)

@@ -22,7 +22,7 @@ use view::variants;
 
 // The lowest of the refusals 4 to 10, if there is one; a plan that passes has its variants indexed.
 #[tactic(auto, using(crate::proofs::Bytes::judged_any, crate::proofs::Judged::arguments_are_few, crate::proofs::Judged::few_types, crate::proofs::Judged::few_variants), unfolding(plan::specs::Refusal::judged))]
-pub fn judge(plan: &Plan<'_>, index: &mut [u32; 1281]) -> Result<(), Refusal>
+pub fn judge(plan: &Plan<'_, '_, '_>, index: &mut [u32; 1281]) -> Result<(), Refusal>
     ensures number { result_number result ≡ number_of (judged (plan_of plan.now)) }
     ensures any { (bytes : List ℕ) → let p = plan.now in result_number result ≡ number_of (judged (plan_in bytes p.words.now p.rows.now p.tables.now)) }
     ensures indexed { OnOk result (VariantIndexIn plan.now index.new) }

@@ -1,12 +1,13 @@
 -- Expressions from the inside: a binding from its start, from source to source, and to its end. Assumes nothing.
 use Prim.Native.Nat.{ℕ, zero, suc, ◌+◌, ◌-◌, ◌≤◌, ◌<◌}
-use mathlib.Core.Path.{◌≡◌, refl, sym}
+use mathlib.Core.Path.{◌≡◌, refl, sym, ◌∙◌}
 use mathlib.Core.Bool.{Bool, true, false}
 use mathlib.Core.List.{List}
 use native.Mathlib.Nat.{add-zero}
 use native.Mathlib.Omega.{arith}
 use lib.ListN.{length, get_or}
 use Rattle.std.specs.Prelude.{Option, Some, None}
+use Rattle.text.specs.Writes.{SameSink}
 use Rattle.text.specs.declared.sink.Sink.{Sink}
 use Rattle.plan.specs.Plan.{Environment}
 use Rattle.plan.specs.Binding.{Binding, ConstBool, ConstInt, ConstPrim, Argument, Extractor, Constructor, Iterator, MakeVariant, MakeStruct, MakeSome, MatchSome, MatchTuple, MatchVariant, ExtractStruct}
@@ -104,9 +105,10 @@ module _ (s : Scope) (depth b : ℕ) where
       -- source i, and up to the next
       leaves_turn : (x : Source) {given : Bool} {w₂ : Sink} {r₂ : Marks} {w₃ : Sink} {r₃ : Marks} → StepIs s depth b i w₁ (Some x) → contains r₁ x.binding ≡ given
           → Writes s x.depth x.binding (suc x.binding) (λ rec d. rec d x.binding) w₁ r₁ w₂ r₂
-          → UpTo s depth b (i + 1) given w₂ r₂ w₃ r₃
+          → UpTo s depth b (i + 1) given w₂ r₂ w₃ r₃ → SameSink w₂ w₃
           → Leaves s depth b b (rest_of s b 0) w r (rest_of s b (i + 1)) w₃ r₃
-      leaves_turn x {given} n m q u = record {
+      leaves_turn x {given} n m q u t = record {
+        same = (t.0 ∙ q.same.0 ∙ g.same.0, t.1 ∙ q.same.1 ∙ g.same.1, t.2 ∙ q.same.2 ∙ g.same.2);
         is = λ d₀ d k h.
             let row = row_of s.bindings b in
             let z : i + 1 ≡ suc i = omega arith in
@@ -119,6 +121,7 @@ module _ (s : Scope) (depth b : ℕ) where
         -- from the first source
         writes_rest : Writes s depth b b (rest_of s b 0) w r w₁ r₁
         writes_rest = record {
+          same = g.same;
           is = λ d₀ d k h.
               by_leb (λ x. Emits (env_in s) d₀ (rest_of s b 0 (below s k) d) w r w₁ r₁) w₁.end w₁.at
               (λ q. (g.is d₀ d k h).ends _ _ (emits_past q))
@@ -127,10 +130,10 @@ module _ (s : Scope) (depth b : ℕ) where
 
         -- from the start
         writes_done : {w₀ : Sink} {r₀ : Marks}
-            → UpTo s depth b 0 false w₀ r₀ w r
+            → UpTo s depth b 0 false w₀ r₀ w r → SameSink w₀ w
             → Writes s depth b (suc b) (λ rec d. rec d b) w₀ r₀ w₁ r₁
         unfolding emit_below
-        writes_done {w₀} {r₀} u = record { is = go }
+        writes_done {w₀} {r₀} u x = record { same = (g.same.0 ∙ x.0, g.same.1 ∙ x.1, g.same.2 ∙ x.2); is = go }
           where
             go : (d₀ d k : ℕ) → Ready s depth b (suc b) d₀ d k → Emits (env_in s) d₀ (below s k d b) w₀ r₀ w₁ r₁
             go d₀ d zero h = absurd (omega (arith, h.fuel))
@@ -151,17 +154,17 @@ pub record Stands (s : Scope) (depth b : ℕ) (w₀ : Sink) (r₀ : Marks) (e : 
 module _ (s : Scope) (depth b : ℕ) {w₀ : Sink} {r₀ : Marks} {e : Expression} {w : Sink} {r : Marks} where
   pub stands_turn : (x : Source) (next : Option Source) {given : Bool} {w₂ : Sink} {r₂ : Marks} {w₃ : Sink} {r₃ : Marks} {e' : Expression} → Stands s depth b w₀ r₀ e w r (Some x) → contains r x.binding ≡ given
       → Writes s x.depth x.binding (suc x.binding) (λ rec d. rec d x.binding) w r w₂ r₂
-      → e' ≡ record e { written = e.written + 1 } → UpTo s e.depth e.binding (e.written + 1) given w₂ r₂ w₃ r₃ → StepIs s e.depth e.binding (e.written + 1) w₃ next
+      → e' ≡ record e { written = e.written + 1 } → UpTo s e.depth e.binding (e.written + 1) given w₂ r₂ w₃ r₃ → SameSink w₂ w₃ → StepIs s e.depth e.binding (e.written + 1) w₃ next
       → Stands s depth b w₀ r₀ e' w₃ r₃ next
-  stands_turn x next h g q m u n =
+  stands_turn x next h g q m u t n =
       rw m (record {
         number = h.number;
         deep = h.deep;
-        leaves = leaves_turn s depth b e.written h.leaves x h.step g q (rw (h.deep, h.number) at u);
+        leaves = leaves_turn s depth b e.written h.leaves x h.step g q (rw (h.deep, h.number) at u) t;
         step = rw (h.deep, h.number) at n;
       })
 
-  pub stands_end : {w₁ : Sink} {r₁ : Marks} → Stands s depth b w r e w₁ r₁ None → UpTo s depth b 0 false w₀ r₀ w r → Writes s depth b (suc b) (λ rec d. rec d b) w₀ r₀ w₁ r₁
+  pub stands_end : {w₁ : Sink} {r₁ : Marks} → Stands s depth b w r e w₁ r₁ None → UpTo s depth b 0 false w₀ r₀ w r → SameSink w₀ w → Writes s depth b (suc b) (λ rec d. rec d b) w₀ r₀ w₁ r₁
   stands_end h u = writes_done s depth b e.written h.leaves h.step u
 
 -- A WHOLE EXPRESSION

@@ -3,6 +3,7 @@ use Rattle.std.specs.Prelude.{ℕ, ◌+◌, ◌-◌, ◌≤◌, ◌<◌, ◌≡�
 use Rattle.plan.specs.Binding.{Binding}
 use Rattle.codegen.specs.Writer.{Marks, Writer}
 use Rattle.codegen.specs.Expr.{emit_below}
+use Rattle.text.specs.Writes.{SameSink}
 use Rattle.text.specs.declared.sink.Sink.{Sink}
 use Rattle.view.specs.Buffers.{env_of}
 use Rattle.view.specs.declared.buffers.Plan.{Plan}
@@ -40,12 +41,15 @@ abbrev pub NextPart : Plan → ℕ → ℕ → Binding → List ℕ → ℕ → 
 NextPart p depth b k qs i w r w' r' =
     VariantsIndexed p → (d₀ d : ℕ) → depth ≡ d₀ + d → depth < 4611686018427387904 → Emits (env_of p) d₀ (next_part (env_of p) d b k qs i (source_count (env_of p) k qs - i)) w r w' r'
 
--- from here, the writer v of binding b, or of a part of it, leads there; what it writes by `emit_below` has numbers below c
+-- from here, the writer v of binding b, or of a part of it, leads there; what it writes by `emit_below` has numbers below c.
+-- Whatever is known, the sink is the same one.
 pub record Writes (s : Scope) (depth b c : ℕ) (v : Through) (w : Sink) (r : Marks) (w' : Sink) (r' : Marks) : Type 0 where
+  pub same : SameSink w w'
   pub is : (d₀ d k : ℕ) → Ready s depth b c d₀ d k → Emits (env_in s) d₀ (v (below s k) d) w r w' r'
 
 -- from the start to here, all of v₀ but v is written
 pub record Leaves (s : Scope) (depth b c : ℕ) (v₀ : Through) (w₀ : Sink) (r₀ : Marks) (v : Through) (w : Sink) (r : Marks) : Type 0 where
+  pub same : SameSink w₀ w
   pub is : (d₀ d k : ℕ) → Ready s depth b c d₀ d k → Rest (env_in s) d₀ (v₀ (below s k) d) w₀ r₀ (v (below s k) d) w r
 
 -- source i of binding b, and all that stands after it

@@ -1,6 +1,7 @@
 // What stands before, between and after the sources of a binding, for all kinds: `emit_expr` of codegen.rs 915 is this and its calls
 // of itself. None of these functions is on the stack while a source is written, so they may have what locals they like.
 ghost use Rattle.std.specs.Prelude.{ℕ, false, ◌+◌, ◌-◌, ◌<◌, ◌≡◌};
+ghost use Rattle.text.specs.Writes.{SameSink};
 ghost use Rattle.plan.specs.Plan.{Environment};
 ghost use Rattle.codegen.specs.Writer.{Marks, contains};
 ghost use Rattle.view.specs.Buffers.{env_of};
@@ -40,7 +41,13 @@ pub struct Source {
 }
 
 // A call up to its parameters. The result is marked before they are written.
-fn call_head(w: &mut Sink<'_>, plan: &Plan<'_>, refs: &mut [bool], b: usize, sig: ExternalSig)
+fn call_head(
+    w: &mut Sink<'_>,
+    plan: &Plan<'_, '_, '_>,
+    refs: &mut [bool],
+    b: usize,
+    sig: ExternalSig,
+)
     ensures { let env = env_of plan.now in (d : ℕ) → Emits env d (call_head env b (sig_told env sig)) w.old (set_of refs.old) w.new (set_of refs.new) }
 {
     mark_result(w, plan, refs, b, sig);
@@ -58,7 +65,13 @@ fn open_fields(w: &mut Sink<'_>, sources: &[u32])
 }
 
 // Before parameter i, of which it is known whether it is a reference, and after it.
-fn before_parameter(w: &mut Sink<'_>, plan: &Plan<'_>, sig: ExternalSig, i: usize, given: bool)
+fn before_parameter(
+    w: &mut Sink<'_>,
+    plan: &Plan<'_, '_, '_>,
+    sig: ExternalSig,
+    i: usize,
+    given: bool,
+)
     ensures { let env = env_of plan.now in (d : ℕ) (m : Marks) → Emits env d (before_parameter env (sig_told env sig) i given) w.old m w.new m }
 {
     let wanted = sig.param_ty(plan, i).is_ref(plan);
@@ -66,7 +79,13 @@ fn before_parameter(w: &mut Sink<'_>, plan: &Plan<'_>, sig: ExternalSig, i: usiz
     put_borrow(w, wanted, given);
 }
 
-fn after_parameter(w: &mut Sink<'_>, plan: &Plan<'_>, sig: ExternalSig, i: usize, given: bool)
+fn after_parameter(
+    w: &mut Sink<'_>,
+    plan: &Plan<'_, '_, '_>,
+    sig: ExternalSig,
+    i: usize,
+    given: bool,
+)
     ensures { let env = env_of plan.now in (d : ℕ) (m : Marks) → Emits env d (after_parameter env (sig_told env sig) i given) w.old m w.new m }
 {
     let wanted = sig.param_ty(plan, i).is_ref(plan);
@@ -75,7 +94,8 @@ fn after_parameter(w: &mut Sink<'_>, plan: &Plan<'_>, sig: ExternalSig, i: usize
 
 // After a field, of which it is known whether it is a reference.
 fn after_field(w: &mut Sink<'_>, given: bool)
-    ensures { (env : Environment) (d q : ℕ) (m : Marks) → contains m q ≡ given → Emits env d (after_field q) w.old m w.new m }
+    ensures emits { (env : Environment) (d q : ℕ) (m : Marks) → contains m q ≡ given → Emits env d (after_field q) w.old m w.new m }
+    ensures same { SameSink w.old w.new }
 {
     put_clone(w, false, given);
     w.put_bytes(b",");
@@ -83,7 +103,8 @@ fn after_field(w: &mut Sink<'_>, given: bool)
 
 // The line that closes the fields, if there are fields.
 fn close_fields(w: &mut Sink<'_>, depth: usize, sources: &[u32])
-    ensures { (env : Environment) (d₀ d : ℕ) (m : Marks) → depth ≡ d₀ + d → Emits env d₀ (closes d sources.now) w.old m w.new m }
+    ensures emits { (env : Environment) (d₀ d : ℕ) (m : Marks) → depth ≡ d₀ + d → Emits env d₀ (closes d sources.now) w.old m w.new m }
+    ensures same { SameSink w.old w.new }
 {
     if !sources.is_empty() {
         w.put_byte(b'\n');
@@ -97,7 +118,7 @@ fn close_fields(w: &mut Sink<'_>, depth: usize, sources: &[u32])
 // proposition.
 #[derive(Clone, Copy)]
 struct BindingRow<'a> {
-    plan: &'a Plan<'a>,
+    plan: &'a Plan<'a, 'a, 'a>,
     number: usize,
     binding: Binding,
     sources: &'a [u32],
@@ -113,7 +134,8 @@ impl BindingRow<'_> {
 
     // All that stands before the first source. Constants and arguments have none: this is all of them.
     fn begin(&self, w: &mut Sink<'_>, refs: &mut [bool])
-        ensures { let r = self.now in VariantsIndexed r.plan.now → let env = env_of r.plan.now in (d : ℕ) → Emits env d (begins env r.number (binding_told r.binding) r.sources.now) w.old (set_of refs.old) w.new (set_of refs.new) }
+        ensures emits { let r = self.now in VariantsIndexed r.plan.now → let env = env_of r.plan.now in (d : ℕ) → Emits env d (begins env r.number (binding_told r.binding) r.sources.now) w.old (set_of refs.old) w.new (set_of refs.new) }
+        ensures same { SameSink w.old w.new }
     {
         if let Some(sig) = self.called() {
             return call_head(w, self.plan, refs, self.number, sig);
@@ -166,7 +188,8 @@ impl BindingRow<'_> {
 
     // Before source i.
     fn put_before(&self, w: &mut Sink<'_>, depth: usize, i: usize, given: bool)
-        ensures { let r = self.now in VariantsIndexed r.plan.now → let env = env_of r.plan.now in (d₀ d : ℕ) (m : Marks) → depth ≡ d₀ + d → Emits env d₀ (before_source env d (binding_told r.binding) i given) w.old m w.new m }
+        ensures emits { let r = self.now in VariantsIndexed r.plan.now → let env = env_of r.plan.now in (d₀ d : ℕ) (m : Marks) → depth ≡ d₀ + d → Emits env d₀ (before_source env d (binding_told r.binding) i given) w.old m w.new m }
+        ensures same { SameSink w.old w.new }
     {
         if let Some(sig) = self.called() {
             return before_parameter(w, self.plan, sig, i, given);
@@ -204,7 +227,8 @@ impl BindingRow<'_> {
 
     // After the last source.
     fn finish(&self, w: &mut Sink<'_>, depth: usize)
-        ensures { let r = self.now in let env = env_of r.plan.now in (d₀ d : ℕ) (m : Marks) → depth ≡ d₀ + d → Emits env d₀ (ends env d r.number (binding_told r.binding) r.sources.now) w.old m w.new m }
+        ensures emits { let r = self.now in let env = env_of r.plan.now in (d₀ d : ℕ) (m : Marks) → depth ≡ d₀ + d → Emits env d₀ (ends env d r.number (binding_told r.binding) r.sources.now) w.old m w.new m }
+        ensures same { SameSink w.old w.new }
     {
         if let Some(sig) = self.called() {
             return put_call_end(w, self.number, sig);
@@ -215,9 +239,11 @@ impl BindingRow<'_> {
     }
 
     // Up to source i, or to the end, from the start or from the end of the source before. A source that is not below its binding is none.
+    #[inline(always)]
     fn put_next(&self, w: &mut Sink<'_>, refs: &[bool], depth: usize, i: usize) -> Option<Source>
         ensures source { let r = self.now in NextIs r.plan.now depth r.number (binding_told r.binding) r.sources.now i result }
         ensures written { let r = self.now in NextPart r.plan.now depth r.number (binding_told r.binding) r.sources.now i w.old (set_of refs.now) w.new (set_of refs.now) }
+        ensures same { SameSink w.old w.new }
     {
         if self.count_sources() <= i {
             self.finish(w, depth);
@@ -235,6 +261,7 @@ impl BindingRow<'_> {
 }
 
 // Binding b, which has no name.
+#[inline(always)]
 fn nameless<'a>(bindings: &Bindings<'a>, b: usize) -> BindingRow<'a>
     ensures plan { result.plan.now ≡ bindings.now.plan.now }
     ensures number { result.number ≡ b }
@@ -265,6 +292,7 @@ impl Expression {
     pub fn begin(&self, w: &mut Sink<'_>, refs: &mut [bool], scope: &Scope<'_>) -> Option<Source>
         ensures source { StepIs scope.now self.now.depth self.now.binding 0 w.new result }
         ensures written { UpTo scope.now self.now.depth self.now.binding 0 false w.old (set_of refs.old) w.new (set_of refs.new) }
+        ensures same { SameSink w.old w.new }
     {
         if w.end <= w.at {
             return None;
@@ -293,6 +321,7 @@ impl Expression {
         ensures more { self.new ≡ record self.old { written = self.old.written + 1 } }
         ensures source { StepIs scope.now self.old.depth self.old.binding (self.old.written + 1) w.new result }
         ensures written { UpTo scope.now self.old.depth self.old.binding (self.old.written + 1) given w.old (set_of refs.old) w.new (set_of refs.new) }
+        ensures same { SameSink w.old w.new }
     {
         let i = self.written;
         self.written += 1;

@@ -9,7 +9,7 @@ use view::binding::Binding;
 use view::buffers::Plan;
 
 // The signature of what a binding calls, if it calls something.
-pub fn called(plan: &Plan<'_>, binding: Binding) -> Option<ExternalSig>
+pub fn called(plan: &Plan<'_, '_, '_>, binding: Binding) -> Option<ExternalSig>
     ensures { let env = env_of plan.now in called_told env result ≡ called env (binding_told binding) }
 {
     match binding {

@@ -9,6 +9,7 @@ pub mod call;
 
 ghost use Rattle.std.specs.Prelude.{◌≡◌};
 ghost use Rattle.codegen.specs.Expr.{emit_expr, emit_source, wants_ref};
+ghost use Rattle.text.specs.Writes.{SameSink};
 ghost use Rattle.view.specs.Told.{constraint_told};
 ghost use Rattle.emits.specs.Marks.{set_of};
 ghost use Rattle.emits.specs.Runs.{Emits};
@@ -31,7 +32,8 @@ pub struct Scope<'a> {
 // The expression of binding b, where the line that it stands on is `depth` deep. That this is a small number is a premise and no type,
 // since a type would ask it of callers that need none of this.
 pub fn emit_expr(w: &mut Sink<'_>, refs: &mut [bool], scope: &Scope<'_>, depth: usize, b: usize)
-    ensures { let s = scope.now in Fits s depth b → Emits (env_in s) depth (emit_expr (env_in s) (bindings_of s) (bound_in s) b) w.old (set_of refs.old) w.new (set_of refs.new) }
+    ensures emits { let s = scope.now in Fits s depth b → Emits (env_in s) depth (emit_expr (env_in s) (bindings_of s) (bound_in s) b) w.old (set_of refs.old) w.new (set_of refs.new) }
+    ensures same { SameSink w.old w.new }
 {
     emit_below(w, refs, scope, depth, b);
 }
@@ -52,7 +54,8 @@ pub fn emit_source(
     q: usize,
     c: Constraint,
 )
-    ensures { let s = scope.now in Fits s depth q → Emits (env_in s) depth (emit_source (env_in s) (bindings_of s) (bound_in s) q (constraint_told c)) w.old (set_of refs.old) w.new (set_of refs.new) }
+    ensures emits { let s = scope.now in Fits s depth q → Emits (env_in s) depth (emit_source (env_in s) (bindings_of s) (bound_in s) q (constraint_told c)) w.old (set_of refs.old) w.new (set_of refs.new) }
+    ensures same { SameSink w.old w.new }
 {
     put_borrow(w, wants_ref(c), contains(refs, q));
     emit_expr(w, refs, scope, depth, q);

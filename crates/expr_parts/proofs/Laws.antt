@@ -9,10 +9,14 @@ use Rattle.codegen.specs.ReturnKind as kind
 use Rattle.codegen.specs.Sema.{is_ref, field_name, full_name_of}
 use Rattle.codegen.specs.Writer.{Marks, contains, say, ask, nothing}
 use Rattle.codegen.specs.Expr.{cloned, returns_ref}
+use Rattle.view.specs.declared.binding.Binding.{Binding}
+use Rattle.view.specs.declared.binding.Binding.TheVariants as b
+use Rattle.view.specs.Told.{binding_told}
 use Rattle.emits.specs.Emits.{odd_append}
 use Rattle.emits.specs.Sinks.{Shows, shows_none}
 use Rattle.emits.specs.Runs.{Emits, emits_say, emits_ask}
 use Rattle.sema.specs.Signature.{prefix}
+use Rattle.expr_parts.specs.Sources.{after_one}
 
 -- NO ODD LITERALS
 
@@ -83,3 +87,21 @@ returns_others env (t ∷ u ∷ ts) h = refl
 -- the same of a number of types, a type and an answer that were read
 pub returns_first : (env : Environment) (ts : List ℕ) (n ty : ℕ) (b : Bool) → n ≡ length ts → n ≡ 1 → ty ≡ get_or ts 0 0 → b ≡ is_ref env ty → b ≡ returns_ref env ts
 returns_first env ts n ty b h k q p = p ∙ ap (is_ref env) q ∙ returns_one env ts (sym h ∙ k)
+
+-- nothing stands after the sources of the other kinds
+pub after_none : (k : Binding) (q : ℕ) → (k ≡ b.Iterator → ⊥) → (k ≡ b.MakeSome → ⊥) → (k ≡ b.MatchSome → ⊥) → ((f : ℕ) → k ≡ b.MatchTuple f → ⊥) → ((f : ℕ) → k ≡ b.MatchVariant f → ⊥) → ((f : ℕ) → k ≡ b.ExtractStruct f → ⊥)
+    → after_one (binding_told k) q ≡ nothing
+after_none (b.ConstBool x) q i s m t v e = refl
+after_none (b.ConstInt x y) q i s m t v e = refl
+after_none (b.ConstPrim x) q i s m t v e = refl
+after_none (b.Argument x) q i s m t v e = refl
+after_none (b.Extractor x) q i s m t v e = refl
+after_none (b.Constructor x) q i s m t v e = refl
+after_none b.Iterator q i s m t v e = absurd (i refl)
+after_none (b.MakeVariant x y) q i s m t v e = refl
+after_none (b.MakeStruct x) q i s m t v e = refl
+after_none b.MakeSome q i s m t v e = absurd (s refl)
+after_none b.MatchSome q i s m t v e = absurd (m refl)
+after_none (b.MatchTuple x) q i s m t v e = absurd (t x refl)
+after_none (b.MatchVariant x) q i s m t v e = absurd (v x refl)
+after_none (b.ExtractStruct x) q i s m t v e = absurd (e x refl)

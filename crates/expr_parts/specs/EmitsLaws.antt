@@ -19,6 +19,7 @@ module _ {env : Environment} {d : ℕ} {v u : Writer} where
   unfolding run
   emits_same {w} {r} h p = record {
     buffer = p.buffer;
+    size = p.size;
     end = p.end;
     emits = record { is = p.emits.is ∙ place_cases (λ x. run w.end env d v x ≡ run w.end env d u x) w.end w.out.now w.at w.odd r (λ g k. rw h) (λ g. refl) (λ g. refl) };
   }

@@ -5,6 +5,7 @@ pub mod consts;
 pub mod pieces;
 
 ghost use Rattle.std.specs.Prelude.{ℕ, ◌+◌, min, ◌≡◌, refl, cond, not, ◌&&◌, [], ◌∷◌, ◌++◌, length, get_or};
+ghost use Rattle.text.specs.Writes.{SameSink};
 ghost use Rattle.plan.specs.Plan.{Environment};
 ghost use Rattle.codegen.specs.Piece.{fix, sym, type, num, var, break};
 ghost use Rattle.codegen.specs.ReturnKind.{by_return_kind};
@@ -14,7 +15,7 @@ ghost use Rattle.codegen.specs.Expr.{returns_ref};
 ghost use Rattle.view.specs.Buffers.{env_of};
 ghost use Rattle.view.specs.Told.{binding_told};
 ghost use Rattle.emits.specs.Marks.{set_of};
-ghost use Rattle.emits.specs.Runs.{Emits};
+ghost use Rattle.emits.specs.Runs.{Emits, EmitsPlain};
 ghost use Rattle.emits.specs.Sinks.{Shows};
 ghost use Rattle.sema.specs.Fields.{fields_read};
 ghost use Rattle.sema.specs.Signature.{sig_told};
@@ -30,7 +31,7 @@ use text::sink::Sink;
 use view::binding::Binding;
 use view::buffers::Plan;
 
-pub fn const_prim(w: &mut Sink<'_>, plan: &Plan<'_>, val: usize)
+pub fn const_prim(w: &mut Sink<'_>, plan: &Plan<'_, '_, '_>, val: usize)
     ensures { let env = env_of plan.now in (d : ℕ) → Shows env d (sym val ∷ []) w.old w.new }
 {
     put_text(w, plan, Text::Sym, val);
@@ -45,7 +46,7 @@ pub fn argument(w: &mut Sink<'_>, i: usize)
 
 // After the source of `MatchSome`: `?` on a reference needs `.as_ref()`.
 fn put_try(w: &mut Sink<'_>, refs: &[bool], q: usize)
-    ensures emits { (env : Environment) (d : ℕ) → Emits env d (ask q (λ x. say (cond x (fix ".as_ref()?" refl) (fix "?" refl) ∷ []))) w.old (set_of refs.now) w.new (set_of refs.now) }
+    ensures plain { (env : Environment) (d : ℕ) → EmitsPlain env d (ask q (λ x. say (cond x (fix ".as_ref()?" refl) (fix "?" refl) ∷ []))) w.old (set_of refs.now) w.new (set_of refs.now) }
     ensures odd { w.new.odd ≡ w.old.odd }
 {
     if contains(refs, q) {
@@ -76,6 +77,7 @@ fn put_fixme_field(w: &mut Sink<'_>, field: usize)
 // What stands after the source of a kind that has one.
 pub fn put_after(w: &mut Sink<'_>, refs: &[bool], q: usize, k: Binding)
     ensures emits { (env : Environment) (d : ℕ) → Emits env d (after_one (binding_told k) q) w.old (set_of refs.now) w.new (set_of refs.now) }
+    ensures plain { (env : Environment) (d : ℕ) → EmitsPlain env d (after_one (binding_told k) q) w.old (set_of refs.now) w.new (set_of refs.now) }
     ensures odd { w.new.odd ≡ w.old.odd }
 {
     match k {
@@ -110,13 +112,13 @@ pub fn put_clone(w: &mut Sink<'_>, wanted: bool, given: bool)
 }
 
 // The names before a struct's and a variant's fields.
-pub fn type_name(w: &mut Sink<'_>, plan: &Plan<'_>, ty: TypeId)
+pub fn type_name(w: &mut Sink<'_>, plan: &Plan<'_, '_, '_>, ty: TypeId)
     ensures { let env = env_of plan.now in (d : ℕ) → Shows env d (type ty.0 ∷ []) w.old w.new }
 {
     ty.put_name(w, plan);
 }
 
-pub fn variant_name(w: &mut Sink<'_>, plan: &Plan<'_>, ty: TypeId, name: usize)
+pub fn variant_name(w: &mut Sink<'_>, plan: &Plan<'_, '_, '_>, ty: TypeId, name: usize)
     ensures { let env = env_of plan.now in (d : ℕ) → Shows env d (type ty.0 ∷ fix "::" refl ∷ sym name ∷ []) w.old w.new }
 {
     type_name(w, plan, ty);
@@ -126,15 +128,22 @@ pub fn variant_name(w: &mut Sink<'_>, plan: &Plan<'_>, ty: TypeId, name: usize)
 
 // Whether a call's result is a reference: one type is returned, and that is one.
 #[tactic(auto, using(crate::proofs::Laws::returns_first, crate::proofs::Laws::returns_others))]
-fn returns_ref(plan: &Plan<'_>, sig: ExternalSig) -> bool
+fn returns_ref(plan: &Plan<'_, '_, '_>, sig: ExternalSig) -> bool
     ensures { let env = env_of plan.now in result ≡ returns_ref env (sig_told env sig).ret_tys }
 {
     sig.ret_count(plan) == 1 && sig.ret_ty(plan, 0).is_ref(plan)
 }
 
 // A result that is a reference is marked, and `&` written.
-pub fn mark_result(w: &mut Sink<'_>, plan: &Plan<'_>, refs: &mut [bool], b: usize, sig: ExternalSig)
+pub fn mark_result(
+    w: &mut Sink<'_>,
+    plan: &Plan<'_, '_, '_>,
+    refs: &mut [bool],
+    b: usize,
+    sig: ExternalSig,
+)
     ensures emits { let env = env_of plan.now in (d : ℕ) → Emits env d (cond (returns_ref env (sig_told env sig).ret_tys) (mark b ▸ say (fix "&" refl ∷ [])) nothing) w.old (set_of refs.old) w.new (set_of refs.new) }
+    ensures plain { let env = env_of plan.now in (d : ℕ) → EmitsPlain env d (cond (returns_ref env (sig_told env sig).ret_tys) (mark b ▸ say (fix "&" refl ∷ [])) nothing) w.old (set_of refs.old) w.new (set_of refs.new) }
     ensures odd { w.new.odd ≡ w.old.odd }
 {
     if returns_ref(plan, sig) {
@@ -144,14 +153,13 @@ pub fn mark_result(w: &mut Sink<'_>, plan: &Plan<'_>, refs: &mut [bool], b: usiz
 }
 
 // How many parameters a call writes: as many as there are both sources and types.
-pub fn parameter_count(plan: &Plan<'_>, sources: &[u32], sig: ExternalSig) -> usize
+pub fn parameter_count(plan: &Plan<'_, '_, '_>, sources: &[u32], sig: ExternalSig) -> usize
     ensures { result ≡ min (length sources.now) (length (sig_told (env_of plan.now) sig).param_tys) }
 {
     sources.len().min(sig.param_count(plan))
 }
 
 // The end of a call: an iterator's takes the binding's own name.
-#[tactic(auto, using(emits::specs::Emitted::shown, crate::specs::EmitsLaws::shows_var_put), unfolding(codegen::specs::ReturnKind::by_return_kind))]
 pub fn put_call_end(w: &mut Sink<'_>, b: usize, sig: ExternalSig)
     ensures { (env : Environment) (d : ℕ) → Shows env d (by_return_kind (sig_told env sig).ret_kind (fix ", &mut " refl ∷ var b ∷ []) [] [] ++ (fix ")" refl ∷ [])) w.old w.new }
 {
@@ -163,8 +171,9 @@ pub fn put_call_end(w: &mut Sink<'_>, b: usize, sig: ExternalSig)
 }
 
 // The line of field i up to its value.
-pub fn field_head(w: &mut Sink<'_>, plan: &Plan<'_>, depth: usize, f: &Fields<'_>, i: usize)
-    ensures { let env = env_of plan.now in (d₀ d : ℕ) → depth ≡ d₀ + d → Shows env d₀ (break d ∷ field_name (fields_read f.now) i ∷ fix ": " refl ∷ []) w.old w.new }
+pub fn field_head(w: &mut Sink<'_>, plan: &Plan<'_, '_, '_>, depth: usize, f: &Fields<'_>, i: usize)
+    ensures shows { let env = env_of plan.now in (d₀ d : ℕ) → depth ≡ d₀ + d → Shows env d₀ (break d ∷ field_name (fields_read f.now) i ∷ fix ": " refl ∷ []) w.old w.new }
+    ensures same { SameSink w.old w.new }
 {
     w.put_byte(b'\n');
     w.put_indent(depth);

@@ -28,7 +28,7 @@ use Rattle.splitting.specs.Cases.{and_left, and_right}
 use Rattle.schedule_rules.specs.Faults.{any, returns_many}
 use Rattle.schedule_rules.specs.Found.{Lower}
 use Rattle.schedule_rules.proofs.Found.{found_by_sources}
-use Rattle.faults.specs.Kept.{bindings_of, answer_kept, answer, name_asked, call_asked, answer_to, Known, Latest, Fresh, Finds}
+use Rattle.faults.specs.Kept.{bindings_of, answer_kept, answer, name_asked, call_asked, answer_to, Known, Latest, Fresh, SameAnswers, Finds}
 use Rattle.faults.specs.declared.kept.Kept.{Kept}
 use Rattle.view.specs.declared.bindings.Bindings.{Bindings}
 use Rattle.faults.specs.declared.written.Question.{Question}
@@ -137,28 +137,30 @@ module _ (q : Question) (s : Bindings) (b : ℕ) where
 
   -- a name
   pub finds_name : {k : Kept} {r : Bool} → contains (set_of q.bound.now) b ≡ true → r ≡ name_asked q b → Finds q s (λ f. f b) k k r
-  finds_name h e = record { known = λ l k. (e ∙ sym (answer_is l ∙ rw h), k); latest = λ k. k; number = refl }
+  finds_name h e = record { known = λ l k. (e ∙ sym (answer_is l ∙ rw h), k); latest = λ k. k; number = refl; same = (refl, refl) }
 
   -- the call itself
-  pub finds_call : {k k' : Kept} → contains (set_of q.bound.now) b ≡ false → true ≡ call_asked q s b → k'.number ≡ k.number → k'.answers.now ≡ set k.answers.now b (suc k.number) → Finds q s (λ f. f b) k k' true
-  finds_call {k} {k'} h e n a = record {
+  pub finds_call : {k k' : Kept} → contains (set_of q.bound.now) b ≡ false → true ≡ call_asked q s b → k'.number ≡ k.number → k'.answers.now ≡ set k.answers.now b (suc k.number) → SameAnswers k k' → Finds q s (λ f. f b) k k' true
+  finds_call {k} {k'} h e n a z = record {
     known = λ l w.
         let is : true ≡ answer_to q s b = sym (answer_is l ∙ rw (h, ← e)) in
         (is, rw (n, a) (known_more b true is w));
     latest = λ w. rw (n, a) (latest_more b true w);
     number = n;
+    same = z;
   }
 
   -- the sources
   pub finds_through : {k k' k'' : Kept} {r : Bool} → contains (set_of q.bound.now) b ≡ false → false ≡ call_asked q s b → Finds q s (λ f. any f (binding_at (bindings_of s) b).sources) k k' r
-      → k''.number ≡ k'.number → k''.answers.now ≡ set k'.answers.now b (mark r k'.number) → Finds q s (λ f. f b) k k'' r
-  finds_through {k} {k'} {k''} {r} h e f n a = record {
+      → k''.number ≡ k'.number → k''.answers.now ≡ set k'.answers.now b (mark r k'.number) → SameAnswers k' k'' → Finds q s (λ f. f b) k k'' r
+  finds_through {k} {k'} {k''} {r} h e f n a z = record {
     known = λ l w.
         let g = f.known l w in
         let is : r ≡ answer_to q s b = g.0 ∙ sym (answer_is l ∙ rw (h, ← e)) in
         (is, rw (n, a) (known_more b r is g.1));
     latest = λ w. rw (n, a) (latest_more b r (f.latest w));
     number = n ∙ f.number;
+    same = (z.0 ∙ f.same.0, z.1 ∙ f.same.1);
   }
 
 -- SOURCES ONE BY ONE
@@ -190,6 +192,7 @@ pub record Left (q : Question) (s : Bindings) (b i : ℕ) (k₀ k : Kept) : Type
       → (any (answer_to q s) (drop i (sources_of s b)) ≡ any (answer_to q s) (sources_of s b)) × Known (answer_to q s) k.number k.answers.now
   pub latest : Latest k₀.number k₀.answers.now → Latest k.number k.answers.now
   pub number : k.number ≡ k₀.number
+  pub same : SameAnswers k₀ k
 
 module _ {q : Question} {s : Bindings} {b : ℕ} where
   module _ {i : ℕ} {k₀ k : Kept} (h : i < length (sources_of s b)) (w : Left q s b i k₀ k) where
@@ -199,6 +202,7 @@ module _ {q : Question} {s : Bindings} {b : ℕ} where
       known = λ l x. absurd (omega (arith, ltb-true (nth (sources_of s b) i) b (every_at (λ q. ltb q b) (sources_of s b) i h (l.each b))));
       latest = w.latest;
       number = w.number;
+      same = w.same;
     }
 
     -- a source that has it
@@ -210,6 +214,7 @@ module _ {q : Question} {s : Bindings} {b : ℕ} where
           (sym (sym u.0 ∙ any_cons (answer_to q s) (sources_of s b) i h ∙ or_true _ _ (sym v.0)), v.1);
       latest = λ x. f.latest (w.latest x);
       number = f.number ∙ w.number;
+      same = (f.same.0 ∙ w.same.0, f.same.1 ∙ w.same.1);
     }
 
     -- a source that has not
@@ -221,6 +226,7 @@ module _ {q : Question} {s : Bindings} {b : ℕ} where
           (sym (any_cons (answer_to q s) (sources_of s b) i h ∙ rw (← v.0) refl) ∙ u.0, v.1);
       latest = λ x. f.latest (w.latest x);
       number = f.number ∙ w.number;
+      same = (f.same.0 ∙ w.same.0, f.same.1 ∙ w.same.1);
     }
 
   pub left_none : {i : ℕ} {k₀ k : Kept} → length (sources_of s b) ≤ i → Left q s b i k₀ k → Finds q s (λ f. any f (sources_of s b)) k₀ k false
@@ -228,4 +234,5 @@ module _ {q : Question} {s : Bindings} {b : ℕ} where
     known = λ l x. let u = w.known l x in (sym (any_end (answer_to q s) (sources_of s b) i h) ∙ u.0, u.1);
     latest = w.latest;
     number = w.number;
+    same = w.same;
   }

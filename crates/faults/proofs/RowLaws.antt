@@ -34,7 +34,7 @@ use Rattle.schedule_rules.specs.Faults.{any, returns_many, holds, calls_below, c
 use Rattle.schedule_rules.specs.Found.{Lower, found}
 use Rattle.schedule_rules.proofs.Found.{sources_found}
 use Rattle.view.specs.Buffers.{env_of}
-use Rattle.faults.specs.Kept.{bindings_of, asked_name, asked_call, answer, Known, Fresh, Finds}
+use Rattle.faults.specs.Kept.{bindings_of, asked_name, asked_call, answer, Known, Fresh, SameAnswers, Finds}
 use Rattle.faults.specs.declared.kept.Kept.{Kept}
 use Rattle.view.specs.declared.bindings.Bindings.{Bindings}
 use Rattle.faults.specs.declared.written.Question.{Question}
@@ -238,11 +238,12 @@ module _ (bs : List BindingRow) (m : Marks) (q : ℕ) (ws : List ℕ) where
 -- STEPS
 
 module _ {n n' : Names} {s : Step} where
-  pub judges_loop : (result l : ℕ) (rs : List Row) → n'.bindings ≡ n.bindings → set_of n'.bound ≡ insert (set_of n.bound) result → opens_told s.opens ≡ some body
+  pub judges_loop : (result l : ℕ) (rs : List Row) → n'.bindings ≡ n.bindings → SameAnswers n.kept n'.kept → set_of n'.bound ≡ insert (set_of n.bound) result → opens_told s.opens ≡ some body
       → s.faults.a ≡ not (contains (set_of n.bound) (get_or (binding_at (bindings_of n.bindings) result).sources 0 0)) → s.faults.b ≡ false → s.faults.c ≡ false → JudgesStep n n' (Loop result) l rs s
   unfolding inside opens loop_unbound check_calls match_uses_own
-  judges_loop result l rs z e o a b c = record {
+  judges_loop result l rs z k e o a b c = record {
     bindings = z;
+    same = k;
     names = λ p xs. e;
     frame = λ p xs. o;
     faults_a = record { is = λ y. a };
@@ -255,6 +256,7 @@ module _ {n n' : Names} {s : Step} where
   unfolding inside opens loop_unbound check_calls match_uses_own
   judges_return result pos l rs h o d x z = record {
     bindings = h.bindings;
+    same = h.same;
     names = λ p xs. h.names;
     frame = λ p xs. o;
     faults_a = record { is = λ w. x };
@@ -270,6 +272,7 @@ module _ {n n' : Names} {s : Step} where
       let e' : Decides n.bindings (λ env bs. calls env bs (set_of n.bound) b) second = rw (g.bindings, g.names) at e in
       record {
         bindings = i.bindings ∙ g.bindings;
+        same = (i.same.0 ∙ g.same.0, i.same.1 ∙ g.same.1);
         names = λ p xs. i.names ∙ g.names;
         frame = λ p xs. o;
         faults_a = record { is = λ w. x };
@@ -319,6 +322,7 @@ module _ (words rows : List ℕ) (l r last : ℕ) where
       let b' : Decides n.bindings (λ env bs. calls env bs (match_inside (arm_count l after) after (set_of n.bound)) q) s.faults.b = rw (g.bindings, names) at b in
       record {
         bindings = i.bindings ∙ g.bindings;
+        same = (i.same.0 ∙ g.same.0, i.same.1 ∙ g.same.1);
         names = λ p xs. i.names ∙ names;
         frame = λ p xs. o ∙ ap (λ (a : Arms). opened_by a q) e ∙ sym (match_arms (set_of n.bound) [] q).1;
         faults_a = record { is = λ w. x };
@@ -333,6 +337,7 @@ module _ {n n' : Names} {saved : List Bool} (ws : List ℕ) (rs : List Row) wher
   unfolding inside opens after_list row_faults
   judges_arm {p} {s} h a v = rw (arm_is ws h) (record {
     bindings = a.bindings;
+    same = a.same;
     names = a.names;
     frame = a.frame;
     saved = λ k. ap set_of (v k);
@@ -352,6 +357,7 @@ module _ {n n' : Names} {saved : List Bool} (ws : List ℕ) (rs : List Row) wher
       let jc : Decides n.bindings (λ env bs. match_uses_own bs (listed (drop 7 ws) (set_of n.bound)) (nth ws 0) (control_flow_of ws) rs) s.faults.c = rw (g.bindings, g.names) at j.faults_c in
       rw (step_is ws h) (record {
         bindings = j.bindings ∙ g.bindings;
+        same = (j.same.0 ∙ g.same.0, j.same.1 ∙ g.same.1);
         names = rw g.names at (j.names p (drop 7 ws));
         frame = ap opens_told q ∙ j.frame p (drop 7 ws);
         saved = λ k. ap set_of (v k) ∙ g.names;
@@ -364,7 +370,7 @@ module _ {n n' : Names} {saved : List Bool} (ws : List ℕ) (rs : List Row) wher
 module _ {n : Names} {s : Step} where
   pub arm_other : (p : code.Purpose) (ps : List (Option ℕ)) → ((q : ℕ) → p ≡ purposes.ArmsOf q → ⊥) → s.opens ≡ None → s.faults.a ≡ false → s.faults.b ≡ false → s.faults.c ≡ false → JudgesArm n n (purpose_told p) ps s
   unfolding arm_inside arm_opens
-  arm_other purposes.OneArm ps h o a b c = record { bindings = refl; names = refl; frame = ap opens_told o; none_a = a; none_b = b; none_c = c }
+  arm_other purposes.OneArm ps h o a b c = record { bindings = refl; same = (refl, refl); names = refl; frame = ap opens_told o; none_a = a; none_b = b; none_c = c }
   arm_other (purposes.ArmsOf q) ps h o a b c = absurd (h q refl)
-  arm_other purposes.ArmBody ps h o a b c = record { bindings = refl; names = refl; frame = ap opens_told o; none_a = a; none_b = b; none_c = c }
-  arm_other purposes.Body ps h o a b c = record { bindings = refl; names = refl; frame = ap opens_told o; none_a = a; none_b = b; none_c = c }
+  arm_other purposes.ArmBody ps h o a b c = record { bindings = refl; same = (refl, refl); names = refl; frame = ap opens_told o; none_a = a; none_b = b; none_c = c }
+  arm_other purposes.Body ps h o a b c = record { bindings = refl; same = (refl, refl); names = refl; frame = ap opens_told o; none_a = a; none_b = b; none_c = c }

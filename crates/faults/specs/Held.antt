@@ -1,5 +1,5 @@
 -- Which calls return many is said by the terms alone: what holds of the plan's own environment holds of each with its terms. Contracts name
--- the plan's own, where they once named each that `TermsHeld`: by `many_held` they promise no less. Assumes nothing.
+-- the plan's own, where they once named each that `TermsHeld`: by `many_held` and the laws of proofs/Bytes they promise no less. Assumes nothing.
 use Rattle.std.specs.Prelude.{ℕ, ◌≡◌, refl, [], get_or}
 use Rattle.std.proofs.Common.{sym, ◌∙◌}
 use Rattle.plan.specs.Plan.{Environment}

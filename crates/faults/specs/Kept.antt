@@ -1,5 +1,5 @@
 -- What is asked of a written expression, and what is kept of the answers. Assumes nothing: these are definitions.
-use Rattle.std.specs.Prelude.{ℕ, suc, ◌≤◌, ◌<◌, ◌≡◌, Bool, true, false, cond, not, ◌&&◌, List, [], eqb, get_or, Option, Some, None}
+use Rattle.std.specs.Prelude.{ℕ, suc, ◌≤◌, ◌<◌, ◌≡◌, Bool, true, false, cond, not, ◌&&◌, List, [], eqb, length, get_or, Option, Some, None}
 use denote.Bor.{Bor}
 use Rattle.plan.specs.Plan.{Environment}
 use Rattle.plan.specs.Binding.{BindingRow}
@@ -64,8 +64,13 @@ pub record Fresh (number : ℕ) (kept : List ℕ) : Type 0 where
   pub below : (b : ℕ) → get_or kept b 0 < number
   pub room : number < 4294967295
 
+-- the same lent buffer, as long as it was
+abbrev pub SameAnswers : Kept → Kept → Type 0
+SameAnswers k k' = (k'.answers.ghost_name ≡ k.answers.ghost_name) × (length k'.answers.now ≡ length k.answers.now)
+
 -- r is x of the answers for each binding, the number stays, and what is kept stays right
 pub record Finds (q : Question) (s : Bindings) (x : (ℕ → Bool) → Bool) (k k' : Kept) (r : Bool) : Type 0 where
   pub known : Lower (bindings_of s) → Known (answer_to q s) k.number k.answers.now → (r ≡ x (answer_to q s)) × Known (answer_to q s) k'.number k'.answers.now
   pub latest : Latest k.number k.answers.now → Latest k'.number k'.answers.now
   pub number : k'.number ≡ k.number
+  pub same : SameAnswers k k'

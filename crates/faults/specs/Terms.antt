@@ -3,7 +3,7 @@ use Rattle.std.specs.Prelude.{ℕ, ◌+◌, ◌≤◌, ◌<◌, ◌≡◌, lengt
 use Rattle.std.proofs.Common.{sym, arith}
 use Rattle.std.proofs.Math.Path.{subst}
 use Rattle.text.specs.Codes.{codes}
-use Rattle.text.specs.Writes.{Writes, writes_nil, writes_then}
+use Rattle.text.specs.Writes.{Writes, SameSink, writes_nil, writes_then}
 use Rattle.text.specs.declared.sink.Sink.{Sink}
 use Rattle.view.specs.Buffers.{env_of, plan_of}
 use Rattle.view.specs.declared.buffers.Plan.{Plan}
@@ -21,6 +21,7 @@ use Rattle.faults.specs.Walk.{BlockPut}
 
 -- the lines of the generated term that these tables hold are put
 pub record TermPut (p : Plan) (g : GeneratedTables) (w w' : Sink) : Type 0 where
+  pub same : SameSink w w'
   pub is : TermFits (generated_of p g) → Writes (table_lines (generated_of p g).term 0 (table_faults (env_of p) (generated_of p g))) w w'
 
 module _ (p : Plan) (t : GeneratedTables) where
@@ -28,6 +29,7 @@ module _ (p : Plan) (t : GeneratedTables) where
       → places ≡ 65 → BlockPut b term first last places w w' → TermPut p t w w'
   unfolding table_faults
   term_put {first = first} {last = last} {places = places} z y h g e n b = record {
+    same = b.same;
     is = λ f.
         let rows : rows_from p.words.now p.rows.now last first ≡ (generated_of p t).rows = block_rows p t.block h g in
         let s : Shallow p.words.now p.rows.now first last places = subst (Shallow p.words.now p.rows.now first last) (sym n) (shallow_rows p.words.now p.rows.now first last 64 (omega arith) (rw rows f.shallow)) in

@@ -6,7 +6,7 @@ use Rattle.std.proofs.Math.Option.{some, none}
 use mathlib.Core.List.{List, [], ◌∷◌, ◌++◌}
 use native.Mathlib.Omega.{arith}
 use Rattle.text.specs.SinkLaws.{puts_past}
-use Rattle.text.specs.Writes.{Writes, writes_nil, writes_then}
+use Rattle.text.specs.Writes.{Writes, SameSink, writes_nil, writes_then}
 use Rattle.text.specs.declared.sink.Sink.{Sink}
 use Rattle.plan.specs.Plan.{Environment}
 use Rattle.plan.specs.Binding.{BindingRow}
@@ -37,6 +37,7 @@ use Rattle.faults.specs.Stack.{scope_told, scopes_told, names_told, around_last,
 
 -- the lines of the rows from row `first` up to row `last` are put
 pub record BlockPut (t : Bindings) (term first last places : ℕ) (w w' : Sink) : Type 0 where
+  pub same : SameSink w w'
   pub is : Lower (bindings_of t) → Shallow t.plan.now.words.now t.plan.now.rows.now first last places
       → Writes (table_lines term 0 (block_faults (env_of t.plan.now) (bindings_of t) no_names (rows_in t.plan.now last first))) w w'
 
@@ -44,6 +45,7 @@ pub record BlockPut (t : Bindings) (term first last places : ℕ) (w w' : Sink) 
 pub record Walking {T : Type 0} (t : Bindings) (term first last : ℕ) (w₀ : Sink) (fs : List (Frame T)) (r : ℕ) (n : CodeNames) (w : Sink) : Type 0 where
   pub begun : first ≤ r
   pub bindings : n.bindings ≡ t
+  pub same : SameSink w₀ w
   pub rest : Lower (bindings_of t) → (w' : Sink)
       → Writes (table_lines term (r - first) (block_faults (env_of t.plan.now) (bindings_of t) (names_told n.bound fs) (rows_in t.plan.now last r))) w w'
       → Writes (table_lines term 0 (block_faults (env_of t.plan.now) (bindings_of t) no_names (rows_in t.plan.now last first))) w₀ w'
@@ -111,13 +113,14 @@ module _ {T : Type 0} (fs : List (Frame T)) (n : CodeNames) (r : ℕ) where
 
 -- no room is left
 writes_past : {s : List ℕ} {w : Sink} → w.end ≤ w.at → Writes s w w
-writes_past h = record { buffer = refl; end = refl; odd = refl; puts = puts_past (omega arith) h }
+writes_past h = record { buffer = refl; size = refl; end = refl; odd = refl; puts = puts_past (omega arith) h }
 
 module _ {T : Type 0} {t : Bindings} {term first last : ℕ} {w₀ : Sink} {fs : List (Frame T)} where
   pub walking_start : {n : CodeNames} → fs ≡ [] → n.bindings ≡ t → set_of n.bound ≡ no_marks → Walking t term first last w₀ fs first n w₀
   walking_start s e h = record {
     begun = omega arith;
     bindings = e;
+    same = (refl, refl, refl);
     rest = λ l w' q. let z : first - first ≡ 0 = omega arith in rw (s, h, z) at q;
   }
 
@@ -127,16 +130,16 @@ module _ {T : Type 0} {t : Bindings} {term first last : ℕ} {w₀ : Sink} {fs :
 
     -- past the room
     pub walking_past : {places : ℕ} → w.end ≤ w.at → Done places
-    walking_past h = record { is = λ l s. k.rest l w (writes_past h) }
+    walking_past h = record { same = k.same; is = λ l s. k.rest l w (writes_past h) }
 
     -- no row is left
     pub walking_done : {places : ℕ} → last ≤ r → Done places
     unfolding block_faults table_lines
-    walking_done h = record { is = λ l s. k.rest l w (rw (rows_none t.plan.now.words.now t.plan.now.rows.now r last h) writes_nil) }
+    walking_done h = record { same = k.same; is = λ l s. k.rest l w (rw (rows_none t.plan.now.words.now t.plan.now.rows.now r last h) writes_nil) }
 
     -- there is a place for each level
     pub walking_crowded : {places : ℕ} → r < last → length fs ≤ last_level fs → places ≤ length fs + 1 → last_level fs ≤ nth (row_words n r) 0 → Done places
-    walking_crowded there low h g = let top : last_level fs ≤ nth (words_of t.plan.now r) 0 = rw k.bindings at g in record { is = λ l s. absurd (omega (arith, level_is (words_of t.plan.now r), s.places r k.begun there)) }
+    walking_crowded there low h g = let top : last_level fs ≤ nth (words_of t.plan.now r) 0 = rw k.bindings at g in record { same = k.same; is = λ l s. absurd (omega (arith, level_is (words_of t.plan.now r), s.places r k.begun there)) }
 
     -- the last frame closes
     pub walking_close : {f : Frame T} {n' : CodeNames} → Last fs f → r < last → nth (row_words n r) 0 < f.level → n'.bindings ≡ n.bindings → n'.bound ≡ f.bound → Walking t term first last w₀ (drop 1 fs) r n' w
@@ -148,6 +151,7 @@ module _ {T : Type 0} {t : Bindings} {term first last : ℕ} {w₀ : Sink} {fs :
         record {
           begun = k.begun;
           bindings = e ∙ k.bindings;
+          same = k.same;
           rest = λ y w' q.
               k.rest y w' (rw (rows_next t.plan.now.words.now t.plan.now.rows.now r last there) (rw (close_faults (env_of t.plan.now) (bindings_of t) (names_told n.bound fs) (names_told n'.bound (drop 1 fs)) (block_of ws) (rows_in t.plan.now last (r + 1)) restored (keep_last u l)) (rw (rows_next t.plan.now.words.now t.plan.now.rows.now r last there) at q)));
         }
@@ -165,6 +169,7 @@ module _ {T : Type 0} {term first last : ℕ} {w₀ : Sink} {fs : List (Frame T)
       record {
         begun = omega (arith, k.begun);
         bindings = j.bindings;
+        same = (put.buffer ∙ k.same.0, put.size ∙ k.same.1, put.end ∙ k.same.2);
         rest = λ y w₂ q.
             let next : r + 1 - first ≡ r - first + 1 = omega (arith, k.begun) in
             k.rest y w₂ (rw (rows_next plan.words.now plan.rows.now r last there) (rw (row_faults_here (env_of plan) (bindings_of n.bindings) (names_told n.bound fs) (names_told n'.bound fs') row rs (set_of n.bound) (here_names fs n r low top) (past_names fs n r low top last s j fs' e), lines_cons term (r - first)) (writes_then (rw (j.faults_a.is y, j.faults_b.is y, j.faults_c.is y) at put) (rw next at q))));

@@ -1,6 +1,6 @@
 // The answers that are kept, one for each binding, in a lent buffer: there is no heap.
-ghost use Rattle.std.specs.Prelude.{◌≡◌, cond, suc, ◌<◌, get_or, set};
-ghost use Rattle.faults.specs.Kept.{Latest, Fresh, answer_kept};
+ghost use Rattle.std.specs.Prelude.{◌≡◌, cond, suc, ◌<◌, length, get_or, set};
+ghost use Rattle.faults.specs.Kept.{Latest, Fresh, SameAnswers, answer_kept};
 
 use view::word_in;
 
@@ -15,7 +15,9 @@ pub struct Kept<'a> {
 impl Kept<'_> {
     // Nothing is kept yet.
     pub fn new(answers: &mut [u32]) -> Kept<'_>
-        ensures { Fresh result.number result.answers.now }
+        ensures fresh { Fresh result.number result.answers.now }
+        ensures buffer { result.answers.ghost_name ≡ answers.entry.ghost_name }
+        ensures size { length result.answers.now ≡ length answers.old }
     {
         answers.fill(0);
         Kept { answers, number: 2 }
@@ -23,7 +25,8 @@ impl Kept<'_> {
 
     // A number for which nothing is kept yet. Each is two more than the last, since the one between says that the answer is yes.
     pub fn raise(&mut self)
-        ensures { Latest self.old.number self.old.answers.now → Fresh self.new.number self.new.answers.now }
+        ensures fresh { Latest self.old.number self.old.answers.now → Fresh self.new.number self.new.answers.now }
+        ensures same { SameAnswers self.old self.new }
     {
         if self.number < 4294967292 {
             self.number += 2;
@@ -50,6 +53,7 @@ impl Kept<'_> {
         requires { self.old.number < 4294967295 }
         ensures number { self.new.number ≡ self.old.number }
         ensures answers { self.new.answers.now ≡ set self.old.answers.now b (cond yes (suc self.old.number) self.old.number) }
+        ensures same { SameAnswers self.old self.new }
     {
         if b < self.answers.len() {
             self.answers[b] = self.number + u32::from(yes);

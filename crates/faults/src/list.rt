@@ -5,6 +5,7 @@ ghost use Rattle.origin.specs.Names.{listed};
 ghost use Rattle.view.specs.Buffers.{words_of};
 ghost use Rattle.emits.specs.Marks.{set_of};
 ghost use Rattle.schedule_rules.specs.Faults.{list_calls};
+ghost use Rattle.faults.specs.Kept.{SameAnswers};
 ghost use Rattle.faults.specs.Ready.{Ready, Decides, member_calls};
 
 use super::names::bind;
@@ -19,6 +20,7 @@ fn bind_member(kept: &mut Kept<'_>, bound: &mut [bool], bindings: &Bindings<'_>,
     requires { Ready bindings.now (set_of bound.old) kept.old }
     ensures names { set_of bound.new ≡ insert (set_of bound.old) b }
     ensures ready { Ready bindings.now (set_of bound.new) kept.new }
+    ensures same { SameAnswers kept.old kept.new }
     ensures found { Decides bindings.now (λ env bs. member_calls env bs (set_of bound.old) b) result }
 {
     if contains(bound, b) {
@@ -43,6 +45,7 @@ pub fn list_calls(
     requires { Ready bindings.now (set_of bound.old) kept.old }
     ensures names { set_of bound.new ≡ listed (drop 7 (words_of bindings.now.plan.now r)) (set_of bound.old) }
     ensures ready { Ready bindings.now (set_of bound.new) kept.new }
+    ensures same { SameAnswers kept.old kept.new }
     ensures found { Decides bindings.now (λ env bs. list_calls env bs (set_of bound.old) (drop 7 (words_of bindings.now.plan.now r))) result }
 {
     let mut found = false;

@@ -4,7 +4,7 @@ ghost use Rattle.codegen.specs.Pattern.{bind_all};
 ghost use Rattle.rows.specs.View.{patterns_in};
 ghost use Rattle.view.specs.Buffers.{words_of};
 ghost use Rattle.emits.specs.Marks.{set_of};
-ghost use Rattle.faults.specs.Kept.{Latest, Fresh, answer};
+ghost use Rattle.faults.specs.Kept.{Latest, Fresh, SameAnswers, answer};
 ghost use Rattle.faults.specs.Ready.{Decides};
 ghost use Rattle.faults.specs.Names.{NamesBecome};
 ghost use Rattle.faults.specs.Arms.{arm_names, arm_own, own_used};
@@ -27,6 +27,7 @@ fn uses_own<'a>(
 ) -> bool
     requires { Fresh kept.old.number kept.old.answers.now }
     ensures latest { Latest kept.new.number kept.new.answers.now }
+    ensures same { SameAnswers kept.old kept.new }
     ensures found { Decides bindings.now (λ env bs. answer true env bs (set_of before.now) (set_of bound.now) q) result }
 {
     let question = Question {

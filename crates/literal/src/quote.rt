@@ -17,13 +17,14 @@ fn is_escaped(byte: u8) -> bool
 fn put_escaped(w: &mut Sink<'_>, text: &[u8])
     ensures { Writes (escaped text.now) w.old w.new }
 {
-    // Where what is put next begins: at the text's start, or at the last byte that has a backslash before it.
+    // Where what is put next begins: at the text's start, or after the last byte that has a backslash before it.
     let mut first = 0;
     for (i, byte) in text.iter().enumerate() {
         if is_escaped(*byte) {
             w.put_part(text, first, i);
             w.put_byte(b'\\');
-            first = i;
+            w.put_byte(*byte);
+            first = i + 1;
         }
     }
     w.put_part(text, first, text.len());

@@ -1,5 +1,6 @@
 // What an arm asks of its match's source q: codegen.rs 1077, `emit_constraint`.
 ghost use Rattle.std.specs.Prelude.{ℕ};
+ghost use Rattle.text.specs.Writes.{SameSink};
 ghost use Rattle.plan.specs.Plan.{Environment};
 ghost use Rattle.plan.specs.Constraint as constraint;
 ghost use Rattle.rows.specs.View.{patterns_in};
@@ -23,14 +24,15 @@ use view::buffers::Plan;
 // A variant k of an enum, with its fields.
 fn emit_variant(
     w: &mut Sink<'_>,
-    plan: &Plan<'_>,
+    plan: &Plan<'_, '_, '_>,
     refs: &mut [bool],
     depth: usize,
     ty: TypeId,
     k: usize,
     list: &[u32],
 )
-    ensures { VariantsIndexed plan.now → let env = env_of plan.now in (q : ℕ) → Emits env depth (emit_constraint env q (constraint.Variant ty.0 k) (patterns_in list.now)) w.old (set_of refs.old) w.new (set_of refs.new) }
+    ensures emits { VariantsIndexed plan.now → let env = env_of plan.now in (q : ℕ) → Emits env depth (emit_constraint env q (constraint.Variant ty.0 k) (patterns_in list.now)) w.old (set_of refs.old) w.new (set_of refs.new) }
+    ensures same { SameSink w.old w.new }
 {
     let variant = ty.variant(plan, k);
     w.put_bytes(b"&");
@@ -41,7 +43,7 @@ fn emit_variant(
 // A struct, with its fields.
 fn emit_struct(
     w: &mut Sink<'_>,
-    plan: &Plan<'_>,
+    plan: &Plan<'_, '_, '_>,
     refs: &mut [bool],
     depth: usize,
     ty: TypeId,
@@ -81,14 +83,15 @@ fn emit_some(w: &mut Sink<'_>, refs: &mut [bool], q: usize, list: &[u32])
 // The constraint c, with the bindings of the pattern's list.
 pub fn emit_constraint(
     w: &mut Sink<'_>,
-    plan: &Plan<'_>,
+    plan: &Plan<'_, '_, '_>,
     refs: &mut [bool],
     depth: usize,
     q: usize,
     c: Constraint,
     list: &[u32],
 )
-    ensures { VariantsIndexed plan.now → let env = env_of plan.now in Emits env depth (emit_constraint env q (constraint_told c) (patterns_in list.now)) w.old (set_of refs.old) w.new (set_of refs.new) }
+    ensures emits { VariantsIndexed plan.now → let env = env_of plan.now in Emits env depth (emit_constraint env q (constraint_told c) (patterns_in list.now)) w.old (set_of refs.old) w.new (set_of refs.new) }
+    ensures same { SameSink w.old w.new }
 {
     match c {
         Constraint::ConstBool { val } => emit_bool(w, val),

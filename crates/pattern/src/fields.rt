@@ -6,7 +6,7 @@ ghost use Rattle.codegen.specs.Piece.{fix, unbrace, break};
 ghost use Rattle.codegen.specs.Writer.{say, mark, ◌▸◌, nothing};
 ghost use Rattle.codegen.specs.Pattern.{field_patterns, emit_fields};
 ghost use Rattle.view.specs.Buffers.{env_of};
-ghost use Rattle.emits.specs.Runs.{Emits};
+ghost use Rattle.emits.specs.Runs.{Emits, EmitsPlain};
 ghost use Rattle.emits.specs.Sinks.{Shows};
 ghost use Rattle.emits.specs.Marks.{set_of};
 ghost use Rattle.sema.specs.Fields.{fields_read};
@@ -21,9 +21,8 @@ use view::block::pattern_of;
 use view::buffers::Plan;
 
 // A field whose type is passed by reference is bound as one.
-#[tactic(auto, using(emits::specs::Emitted::emitted), unfolding(codegen::specs::Piece::odd_pieces, codegen::specs::Piece::odd_piece))]
 fn put_ref(w: &mut Sink<'_>, refs: &mut [bool], wanted: bool, b: usize)
-    ensures emits { (env : Environment) (d : ℕ) → Emits env d (cond wanted (mark b ▸ say (fix "ref " refl ∷ [])) nothing) w.old (set_of refs.old) w.new (set_of refs.new) }
+    ensures plain { (env : Environment) (d : ℕ) → EmitsPlain env d (cond wanted (mark b ▸ say (fix "ref " refl ∷ [])) nothing) w.old (set_of refs.old) w.new (set_of refs.new) }
     ensures odd { w.new.odd ≡ w.old.odd }
 {
     if wanted {
@@ -36,14 +35,14 @@ fn put_ref(w: &mut Sink<'_>, refs: &mut [bool], wanted: bool, b: usize)
 // to be a number; of the depth of a pattern nothing is asked.
 fn field_pattern(
     w: &mut Sink<'_>,
-    plan: &Plan<'_>,
+    plan: &Plan<'_, '_, '_>,
     refs: &mut [bool],
     depth: usize,
     f: &Fields<'_>,
     i: usize,
     pattern: Option<usize>,
 )
-    ensures emits { let env = env_of plan.now in Emits env depth (field_patterns env (fields_read f.now) i (pattern_told pattern ∷ [])) w.old (set_of refs.old) w.new (set_of refs.new) }
+    ensures plain { let env = env_of plan.now in EmitsPlain env depth (field_patterns env (fields_read f.now) i (pattern_told pattern ∷ [])) w.old (set_of refs.old) w.new (set_of refs.new) }
     ensures odd { w.new.odd ≡ w.old.odd }
 {
     if let Some(b) = pattern {
@@ -59,13 +58,13 @@ fn field_pattern(
 // Each field that is bound, on a line of its own.
 fn field_patterns(
     w: &mut Sink<'_>,
-    plan: &Plan<'_>,
+    plan: &Plan<'_, '_, '_>,
     refs: &mut [bool],
     depth: usize,
     f: &Fields<'_>,
     list: &[u32],
 )
-    ensures emits { let env = env_of plan.now in Emits env depth (field_patterns env (fields_read f.now) 0 (patterns_in list.now)) w.old (set_of refs.old) w.new (set_of refs.new) }
+    ensures plain { let env = env_of plan.now in EmitsPlain env depth (field_patterns env (fields_read f.now) 0 (patterns_in list.now)) w.old (set_of refs.old) w.new (set_of refs.new) }
     ensures odd { w.new.odd ≡ w.old.odd }
 {
     for (i, word) in list.iter().enumerate() {
@@ -74,7 +73,6 @@ fn field_patterns(
 }
 
 // `..` stands for the fields that are not bound.
-#[tactic(auto, using(emits::specs::Emitted::shown, expr_parts::specs::EmitsLaws::shows_break_put))]
 fn put_skipped(w: &mut Sink<'_>, depth: usize, skipped: bool)
     ensures { (env : Environment) → Shows env depth (cond skipped (break 1 ∷ fix ".." refl ∷ []) [] ++ (break 0 ∷ unbrace ∷ [])) w.old w.new }
 {
@@ -88,13 +86,14 @@ fn put_skipped(w: &mut Sink<'_>, depth: usize, skipped: bool)
 
 pub fn emit_fields(
     w: &mut Sink<'_>,
-    plan: &Plan<'_>,
+    plan: &Plan<'_, '_, '_>,
     refs: &mut [bool],
     depth: usize,
     f: &Fields<'_>,
     list: &[u32],
 )
     ensures emits { let env = env_of plan.now in Emits env depth (emit_fields env (fields_read f.now) (patterns_in list.now)) w.old (set_of refs.old) w.new (set_of refs.new) }
+    ensures plain { let env = env_of plan.now in EmitsPlain env depth (emit_fields env (fields_read f.now) (patterns_in list.now)) w.old (set_of refs.old) w.new (set_of refs.new) }
     ensures odd { w.new.odd ≡ w.old.odd }
 {
     if list.is_empty() {

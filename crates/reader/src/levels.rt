@@ -109,7 +109,7 @@ impl<'a> Levels<'a> {
 
 // Whether the rows of a block nest. No `all`: `put` asks for a place for
 // the level, which the loop's invariant gives, and which a closure would have to ask of `all`.
-fn levels_fit(plan: &Plan<'_>, from: usize, to: usize, above: &mut [u8]) -> bool
+fn levels_fit(plan: &Plan<'_, '_, '_>, from: usize, to: usize, above: &mut [u8]) -> bool
     requires { (from ≤ to) × (to + 2 ≤ length above.old) × (to ≤ 65536) }
     ensures { result ≡ nested (steps ∷ []) (map block_of (cuts plan.now.words.now plan.now.rows.now from (to - from))) }
 {
@@ -127,7 +127,13 @@ fn levels_fit(plan: &Plan<'_>, from: usize, to: usize, above: &mut [u8]) -> bool
 
 // Whether a table has the rows that its sort asks for.
 #[tactic(auto, using(view::proofs::Laws::cuts_length), unfolding(layout::specs::Scan::table_shaped))]
-fn table_fits(plan: &Plan<'_>, table: Table, from: usize, to: usize, above: &mut [u8]) -> bool
+fn table_fits(
+    plan: &Plan<'_, '_, '_>,
+    table: Table,
+    from: usize,
+    to: usize,
+    above: &mut [u8],
+) -> bool
     requires { (from ≤ to) × (to + 2 ≤ length above.old) × (to ≤ 65536) }
     ensures { result ≡ table_shaped (table_number table) (cuts plan.now.words.now plan.now.rows.now from (to - from)) }
 {
@@ -142,7 +148,7 @@ fn table_fits(plan: &Plan<'_>, table: Table, from: usize, to: usize, above: &mut
 // for each level is asked for in three contracts, since it is lent before the number of rows is known: no type could hold both.
 // `rows` is read by the contract alone, which says of how many rows the tables are. No `all`, whose closure would have the buffer lent to it:
 // what it answers did not prove.
-pub fn all_fit(plan: &Plan<'_>, rows: usize, tables: usize, above: &mut [u8]) -> bool
+pub fn all_fit(plan: &Plan<'_, '_, '_>, rows: usize, tables: usize, above: &mut [u8]) -> bool
     requires { Indexed plan.now.tables.now rows tables × (rows + 2 ≤ length above.old) × (rows ≤ 65536) × (tables ≤ 65536) }
     ensures { result ≡ shaped 0 (tables_of plan.now.words.now plan.now.rows.now plan.now.tables.now rows tables) }
 {

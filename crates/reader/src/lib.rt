@@ -42,7 +42,7 @@ fn all_allowed(s: &[u8]) -> bool
 
 // What the buffers hold, as a plan's buffers; its variants are not indexed. This and the next are functions of their own, over a `&Buffers`:
 // several fields of a `&mut Buffers` lent as `&` side by side in one function are not covered by the borrow checker.
-fn view_of<'a>(bytes: &'a [u8], buffers: &'a Buffers<'_>) -> Plan<'a>
+fn view_of<'a>(bytes: &'a [u8], buffers: &'a Buffers<'_>) -> Plan<'a, 'a, 'a>
     ensures { Views bytes.now buffers.now result }
 {
     Plan {
@@ -55,7 +55,7 @@ fn view_of<'a>(bytes: &'a [u8], buffers: &'a Buffers<'_>) -> Plan<'a>
 }
 
 // The plan that the buffers hold in so many tables; its variants are not indexed.
-pub fn plan_held<'a>(bytes: &'a [u8], buffers: &'a Buffers<'_>, tables: usize) -> Plan<'a>
+pub fn plan_held<'a>(bytes: &'a [u8], buffers: &'a Buffers<'_>, tables: usize) -> Plan<'a, 'a, 'a>
     requires { tables < length buffers.now.tables.now }
     ensures { IsHeld bytes.now buffers.now tables result }
 {

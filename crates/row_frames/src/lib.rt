@@ -40,7 +40,7 @@ pub enum Arms {
 // The arms of a match of a level, among the rows from row `first` up to row `last`, which stand after it: two plain numbers, since a `Range`
 // is not Copy and would be made at each call.
 #[tactic(auto, using(crate::proofs::Laws::arms_absent, crate::proofs::Laws::arms_step, crate::proofs::Laws::arms_one, crate::proofs::Laws::arms_several))]
-pub fn arms_of(plan: &Plan<'_>, level: usize, first: usize, last: usize) -> Arms
+pub fn arms_of(plan: &Plan<'_, '_, '_>, level: usize, first: usize, last: usize) -> Arms
     ensures { result ≡ arms_in level (rows_in plan.now last first) }
 {
     if last <= first || plan.is_step(first) {

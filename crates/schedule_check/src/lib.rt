@@ -15,11 +15,11 @@ ghost use Rattle.schedule_check.specs.Answered.{Answers};
 use faults::sheet::put_sheet;
 use layout::{Buffers, Filled};
 use refusal::Refusal;
-use text::sink::Sink;
+use text::sink::{Sink, store};
 use view::buffers::Plan;
 
 // Puts the sheet into a buffer from its start: its length, or one more than the room where the sheet is longer than that.
-fn put_measured(out: &mut [u8], room: usize, plan: &Plan<'_>) -> usize
+fn put_measured(out: &mut [u8], room: usize, plan: &Plan<'_, '_, '_>) -> usize
     requires room { room < 18446744073709551615 }
     requires passes { Passes (plan_of plan.now) }
     ensures { Puts (room + 1) (sheet (plan_of plan.now)) out.old 0 out.new result }
@@ -32,7 +32,7 @@ fn put_measured(out: &mut [u8], room: usize, plan: &Plan<'_>) -> usize
 // The answer for an accepted plan. The sheet is measured as it is put into a draft, so that one that is longer than the buffer changes no byte of
 // it. Where the draft has all of it, it is copied from there; else the faults are found again. To measure with no draft would find them twice in
 // each plan.
-fn answer_held(out: &mut [u8], plan: &Plan<'_>, draft: &mut [u8]) -> Result<usize, Refusal>
+fn answer_held(out: &mut [u8], plan: &Plan<'_, '_, '_>, draft: &mut [u8]) -> Result<usize, Refusal>
     requires { Passes (plan_of plan.now) }
     ensures { Answers (sheet_answer_of (length out.old) (accepted (plan_of plan.now))) result out.old out.new }
 {
@@ -42,7 +42,7 @@ fn answer_held(out: &mut [u8], plan: &Plan<'_>, draft: &mut [u8]) -> Result<usiz
         return Err(Refusal::Room);
     }
     if length <= draft.len() {
-        out[..length].copy_from_slice(&draft[..length]);
+        store(out, 0, &draft[..length]);
     } else {
         put_measured(out, room, plan);
     }
@@ -91,8 +91,9 @@ fn answer_with<const LENGTH: usize, const ROWS: usize, const TABLES: usize>(
     answer_read(plan, out, &mut buffers, &mut draft)
 }
 
-// Buffers that are long enough for each plan take longer to clear than a small plan to check. Short and long plans have a function each, so that a
-// short plan touches no stack that long buffers take.
+// Buffers that are long enough for each plan take longer to clear than a small plan to check. Short and long plans have a function each, which is
+// not compiled into what calls it, so that a short plan touches no stack that long buffers take.
+#[inline(never)]
 fn answer_short(plan: &[u8], out: &mut [u8]) -> Result<usize, Refusal>
     requires { length plan.now ≤ 2048 }
     ensures { Answers (sheet_answer plan.now (length out.old)) result out.old out.new }
@@ -103,6 +104,7 @@ fn answer_short(plan: &[u8], out: &mut [u8]) -> Result<usize, Refusal>
     answer_with::<2048, 1025, 513>(plan, out)
 }
 
+#[inline(never)]
 fn answer_long(plan: &[u8], out: &mut [u8]) -> Result<usize, Refusal>
     ensures { Answers (sheet_answer plan.now (length out.old)) result out.old out.new }
 {

@@ -70,7 +70,7 @@ impl Fields<'_> {
 
     // Its name, put into the sink; in a tuple it is its number.
     #[tactic(auto, unfolding(codegen::specs::Sema::field_name, codegen::specs::Piece::bytes))]
-    pub fn put_name(&self, w: &mut Sink<'_>, plan: &Plan<'_>, i: usize)
+    pub fn put_name(&self, w: &mut Sink<'_>, plan: &Plan<'_, '_, '_>, i: usize)
         ensures { let env = env_of plan.now in (d : ℕ) → Writes (bytes env d (field_name (fields_read self.now) i)) w.old w.new }
     {
         match self.shape {

@@ -64,14 +64,14 @@ pub struct TermId(pub usize);
 impl TermId {
     // The term's row. Single cells of it are read by their number in the row, in the order of the table's names line.
     #[tactic(auto, using(crate::proofs::Laws::term_in_row))]
-    fn row(self, plan: &Plan<'_>) -> usize
+    fn row(self, plan: &Plan<'_, '_, '_>) -> usize
         ensures { term_of (words_of plan.now result) ≡ term_at (env_of plan.now) self.0 }
     {
         plan.row_at(TERMS, self.0)
     }
 
     // `Term::extractor_sig` of sema.rs 689.
-    pub fn extractor_sig(self, plan: &Plan<'_>) -> ExternalSig
+    pub fn extractor_sig(self, plan: &Plan<'_, '_, '_>) -> ExternalSig
         ensures { let env = env_of plan.now in (sig_told env result ≡ extractor_sig (term_at env self.0)) × (function_told result.func ≡ (term_at env self.0).xtor) }
     {
         let row = self.row(plan);
@@ -86,7 +86,7 @@ impl TermId {
     }
 
     // `Term::constructor_sig` of sema.rs 729.
-    pub fn constructor_sig(self, plan: &Plan<'_>) -> ExternalSig
+    pub fn constructor_sig(self, plan: &Plan<'_, '_, '_>) -> ExternalSig
         ensures { let env = env_of plan.now in (sig_told env result ≡ constructor_sig (term_at env self.0)) × (function_told result.func ≡ (term_at env self.0).ctor) }
     {
         let row = self.row(plan);
@@ -100,7 +100,7 @@ impl TermId {
 
     // The types of the term's arguments.
     #[tactic(auto, unfolding(rows::specs::View::term_of))]
-    fn arg_tys<'a>(self, plan: &Plan<'a>) -> &'a [u32]
+    fn arg_tys<'w>(self, plan: &Plan<'_, 'w, '_>) -> &'w [u32]
         ensures { result.now ≡ (term_at (env_of plan.now) self.0).arg_tys }
     {
         plan.list(self.row(plan), TERM_HEAD)
@@ -108,7 +108,7 @@ impl TermId {
 
     // The type of its value, as a list of one: 0 where its row has too few words.
     #[tactic(auto, unfolding(rows::specs::View::term_of))]
-    fn value_tys<'a>(self, plan: &Plan<'a>) -> &'a [u32]
+    fn value_tys<'w>(self, plan: &Plan<'_, 'w, '_>) -> &'w [u32]
         ensures { result.now ≡ (term_at (env_of plan.now) self.0).ret_ty ∷ [] }
     {
         plan.row(self.row(plan)).get(2..3).unwrap_or(&[0])
@@ -118,7 +118,7 @@ impl TermId {
 impl ExternalSig {
     // An extractor takes the term's value and returns its arguments; a constructor does the opposite. A list each: one function of both would be
     // told by a flag at each call which is meant.
-    fn param_tys<'a>(self, plan: &Plan<'a>) -> &'a [u32]
+    fn param_tys<'w>(self, plan: &Plan<'_, 'w, '_>) -> &'w [u32]
         ensures { result.now ≡ (sig_told (env_of plan.now) self).param_tys }
     {
         if self.is_extractor {
@@ -128,7 +128,7 @@ impl ExternalSig {
         }
     }
 
-    fn ret_tys<'a>(self, plan: &Plan<'a>) -> &'a [u32]
+    fn ret_tys<'w>(self, plan: &Plan<'_, 'w, '_>) -> &'w [u32]
         ensures { result.now ≡ (sig_told (env_of plan.now) self).ret_tys }
     {
         if self.is_extractor {
@@ -138,32 +138,32 @@ impl ExternalSig {
         }
     }
 
-    pub fn param_count(self, plan: &Plan<'_>) -> usize
+    pub fn param_count(self, plan: &Plan<'_, '_, '_>) -> usize
         ensures { result ≡ length (sig_told (env_of plan.now) self).param_tys }
     {
         self.param_tys(plan).len()
     }
 
-    pub fn param_ty(self, plan: &Plan<'_>, i: usize) -> TypeId
+    pub fn param_ty(self, plan: &Plan<'_, '_, '_>, i: usize) -> TypeId
         ensures { result.0 ≡ get_or (sig_told (env_of plan.now) self).param_tys i 0 }
     {
         TypeId(word_in(self.param_tys(plan), i) as usize)
     }
 
-    pub fn ret_count(self, plan: &Plan<'_>) -> usize
+    pub fn ret_count(self, plan: &Plan<'_, '_, '_>) -> usize
         ensures { result ≡ length (sig_told (env_of plan.now) self).ret_tys }
     {
         self.ret_tys(plan).len()
     }
 
-    pub fn ret_ty(self, plan: &Plan<'_>, i: usize) -> TypeId
+    pub fn ret_ty(self, plan: &Plan<'_, '_, '_>, i: usize) -> TypeId
         ensures { result.0 ≡ get_or (sig_told (env_of plan.now) self).ret_tys i 0 }
     {
         TypeId(word_in(self.ret_tys(plan), i) as usize)
     }
 
     // The name of an internal function.
-    fn put_internal_name(self, w: &mut Sink<'_>, plan: &Plan<'_>)
+    fn put_internal_name(self, w: &mut Sink<'_>, plan: &Plan<'_, '_, '_>)
         ensures { let env = env_of plan.now in (d : ℕ) → Shows env d (prefix self.is_extractor ∷ sym (term_at env self.term.0).name ∷ []) w.old w.new }
     {
         if self.is_extractor {
@@ -177,7 +177,7 @@ impl ExternalSig {
 
     // `func_name`, put into the sink.
     #[tactic(auto, using(emits::specs::Sinks::shows_none, emits::specs::Sinks::shows_sym), unfolding(codegen::specs::Sema::func_name_of))]
-    pub fn put_func_name(self, w: &mut Sink<'_>, plan: &Plan<'_>)
+    pub fn put_func_name(self, w: &mut Sink<'_>, plan: &Plan<'_, '_, '_>)
         ensures { let env = env_of plan.now in (d : ℕ) → Shows env d (sig_told env self).func_name w.old w.new }
     {
         match self.func {
@@ -188,7 +188,7 @@ impl ExternalSig {
     }
 
     // `full_name`, by which a function is called, put into the sink.
-    pub fn put_full_name(self, w: &mut Sink<'_>, plan: &Plan<'_>)
+    pub fn put_full_name(self, w: &mut Sink<'_>, plan: &Plan<'_, '_, '_>)
         ensures { let env = env_of plan.now in (d : ℕ) → Shows env d (sig_told env self).full_name w.old w.new }
     {
         if let FunctionKind::External { .. } = self.func {

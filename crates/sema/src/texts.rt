@@ -34,20 +34,20 @@ impl From<Text> for usize {
 impl Text {
     // The bytes of the text n, which the plan has.
     #[tactic(auto, using(crate::proofs::Laws::text_is))]
-    fn bytes<'a>(self, plan: &Plan<'a>, n: usize) -> &'a [u8]
+    fn bytes<'p>(self, plan: &Plan<'p, '_, '_>, n: usize) -> &'p [u8]
         ensures { result.now ≡ text_in (env_of plan.now) self n }
     {
         plan.text_at(plan.row_at(usize::from(self), n))
     }
 }
 
-pub fn put_text(w: &mut Sink<'_>, plan: &Plan<'_>, of: Text, n: usize)
+pub fn put_text(w: &mut Sink<'_>, plan: &Plan<'_, '_, '_>, of: Text, n: usize)
     ensures { Writes (text_in (env_of plan.now) of n) w.old w.new }
 {
     w.put_bytes(of.bytes(plan, n));
 }
 
-pub fn put_quoted_text(w: &mut Sink<'_>, plan: &Plan<'_>, of: Text, n: usize)
+pub fn put_quoted_text(w: &mut Sink<'_>, plan: &Plan<'_, '_, '_>, of: Text, n: usize)
     ensures { Writes (quoted (text_in (env_of plan.now) of n)) w.old w.new }
 {
     put_quoted(w, of.bytes(plan, n));

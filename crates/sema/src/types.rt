@@ -34,7 +34,7 @@ pub struct TypeId(pub usize);
 
 impl TypeId {
     // The type: a builtin one has no row, nor has one that doesn't exist, which is taken for `bool`.
-    pub fn data<'a>(self, plan: &Plan<'a>) -> TypeRow<'a>
+    pub fn data<'w>(self, plan: &Plan<'_, 'w, '_>) -> TypeRow<'w>
         ensures { type_read result ≡ type_at (env_of plan.now) self.0 }
     {
         match plan.type_row(self.0) {
@@ -52,7 +52,7 @@ impl TypeId {
     // `ty` of codegen.rs 610: whether a value of the type is passed by reference. A `match`: of a closure that holds the plan, `is_some_and`
     // says nothing about its answer.
     #[tactic(auto, using(crate::proofs::Laws::row_ref), unfolding(codegen::specs::Sema::is_ref_type))]
-    pub fn is_ref(self, plan: &Plan<'_>) -> bool
+    pub fn is_ref(self, plan: &Plan<'_, '_, '_>) -> bool
         ensures { result ≡ is_ref (env_of plan.now) self.0 }
     {
         match plan.type_row(self.0) {
@@ -71,7 +71,7 @@ impl TypeId {
 
     // `Type::name` of sema.rs 310, put into the sink.
     #[tactic(auto, using(crate::proofs::Laws::named_by), unfolding(codegen::specs::Piece::type_text))]
-    pub fn put_name(self, w: &mut Sink<'_>, plan: &Plan<'_>)
+    pub fn put_name(self, w: &mut Sink<'_>, plan: &Plan<'_, '_, '_>)
         ensures { let env = env_of plan.now in Writes (type_text env (type_at env self.0)) w.old w.new }
     {
         match plan.type_row(self.0) {
@@ -82,7 +82,7 @@ impl TypeId {
 
     // The type of a parameter: its name, after `&` where it is passed by reference.
     #[tactic(auto, using(text::specs::Writes::writes_then))]
-    pub fn put_param(self, w: &mut Sink<'_>, plan: &Plan<'_>)
+    pub fn put_param(self, w: &mut Sink<'_>, plan: &Plan<'_, '_, '_>)
         ensures { Writes (param_text (env_of plan.now) self.0) w.old w.new }
     {
         if self.is_ref(plan) {
@@ -92,7 +92,7 @@ impl TypeId {
     }
 
     // The fields of a struct: none if it is another type.
-    pub fn fields<'a>(self, plan: &Plan<'a>) -> Fields<'a>
+    pub fn fields<'w>(self, plan: &Plan<'_, 'w, '_>) -> Fields<'w>
         ensures { fields_read result ≡ fields_of (type_at (env_of plan.now) self.0) }
     {
         let data = self.data(plan);
@@ -108,7 +108,7 @@ impl TypeId {
 
     // How many variants an enum has: the index has places for 256 types, and no other type has variants.
     #[tactic(auto, using(crate::proofs::Laws::variants_counted, crate::proofs::Laws::variants_none))]
-    pub fn variant_count(self, plan: &Plan<'_>) -> usize
+    pub fn variant_count(self, plan: &Plan<'_, '_, '_>) -> usize
         ensures own { VariantsIndexed plan.now → result ≡ length (variants_of self.0 (env_of plan.now).variants) }
         ensures any { (p : Plan) → p.index.now ≡ plan.now.index.now → VariantsIndexed p → result ≡ length (variants_of self.0 (env_of p).variants) }
     {
@@ -120,7 +120,7 @@ impl TypeId {
     }
 
     // The variant k of an enum.
-    pub fn variant<'a>(self, plan: &Plan<'a>, k: usize) -> Variant<'a>
+    pub fn variant<'w>(self, plan: &Plan<'_, 'w, '_>, k: usize) -> Variant<'w>
         ensures own { VariantsIndexed plan.now → let v = variant_at (env_of plan.now) self.0 k in (result.name ≡ v.name) × (fields_read result.fields ≡ v.fields) }
         ensures any { (p : Plan) → SameVariants plan.now p → VariantsIndexed p → let v = variant_at (env_of p) self.0 k in (result.name ≡ v.name) × (fields_read result.fields ≡ v.fields) }
     {

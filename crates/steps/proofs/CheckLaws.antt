@@ -15,7 +15,6 @@ use Rattle.codegen.specs.Piece.{odd_piece, odd_pieces}
 use Rattle.rows.specs.View.{nth}
 use Rattle.view.specs.Told.{constraint_of}
 use Rattle.emits.specs.Marks.{set_of}
-use Rattle.emits.specs.Runs.{Emits}
 use Rattle.context.specs.declared.body_context.Nesting.{Nesting}
 use Rattle.row_frames.specs.Arms.{arms_in}
 use Rattle.row_frames.specs.Rows.{rows_next}
@@ -23,40 +22,42 @@ use Rattle.row_frames.specs.declared.Arms.TheVariants.{Absent, One, Several}
 use Rattle.row_frames.proofs.Laws.{arms_absent, arms_step}
 use Rattle.view.specs.BlockRows.{arm_is}
 use Rattle.body.specs.declared.Body.{Body}
-use Rattle.body.specs.Told.{env_in, row_in, pattern_in, rows_in, body_told, Fits, StandsAt, StandsIn}
+use Rattle.body.specs.Told.{row_in, pattern_in, rows_in, body_told, StandsAt, StandsIn}
 use Rattle.body.specs.Own.{WritesOwn}
 use Rattle.body.specs.Lines.{lines_none, lines_same, lines_words}
+use Rattle.body.specs.Words.{WritesWords, line_sink}
 
 -- WHAT A ROW WRITES, from what it is
 
 module _ {deep : Type 0} {b : Body} {inside : List Frame → Type 0} {w : Sink} {refs : List Bool} {opens : Option Purpose} {w' : Sink} {refs' bound' : List Bool} where
-  pub own_same : {u v : Marks → Own} → ((x : Marks) → u x ≡ v x) → WritesOwn deep b inside v w refs opens w' refs' bound' → WritesOwn deep b inside u w refs opens w' refs' bound'
+  pub own_same : {u v : block.Body → Marks → Own} → ((c : block.Body) (x : Marks) → u c x ≡ v c x) → WritesOwn deep b inside v w refs opens w' refs' bound' → WritesOwn deep b inside u w refs opens w' refs' bound'
   own_same h p = record {
-    lines = λ d f i fs x. lines_same (sym (ap (λ (o : Own). o.lines) (h (set_of refs)))) (sym (ap (λ (o : Own). o.refs) (h (set_of refs)))) (p.lines d f i fs x);
-    frame = λ x. p.frame x ∙ sym (ap (λ (o : Own). o.frame) (h x));
-    bound = λ x. p.bound x ∙ sym (ap (λ (o : Own). o.bound) (h x));
+    same = p.same;
+    lines = λ d f i fs x. lines_same (sym (ap (λ (o : Own). o.lines) (h (body_told b) (set_of refs)))) (sym (ap (λ (o : Own). o.refs) (h (body_told b) (set_of refs)))) (p.lines d f i fs x);
+    frame = λ c x. p.frame c x ∙ sym (ap (λ (o : Own). o.frame) (h c x));
+    bound = λ c x. p.bound c x ∙ sym (ap (λ (o : Own). o.bound) (h c x));
   }
 
   -- lines that are not too deep here are not too deep there
-  pub own_deep : {deep' : Type 0} {u : Marks → Own} → (deep' → deep) → WritesOwn deep b inside u w refs opens w' refs' bound' → WritesOwn deep' b inside u w refs opens w' refs' bound'
-  own_deep h p = record { lines = λ d. p.lines (h d); frame = p.frame; bound = p.bound }
+  pub own_deep : {deep' : Type 0} {u : block.Body → Marks → Own} → (deep' → deep) → WritesOwn deep b inside u w refs opens w' refs' bound' → WritesOwn deep' b inside u w refs opens w' refs' bound'
+  own_deep h p = record { same = p.same; lines = λ d. p.lines (h d); frame = p.frame; bound = p.bound }
 
 -- a line of a nesting's depth is one of the nesting
-pub own_nested : {deep : Type 0} {b : Body} {n : Nesting} {u : Marks → Own} {w : Sink} {refs : List Bool} {opens : Option Purpose} {w' : Sink} {refs' bound' : List Bool}
+pub own_nested : {deep : Type 0} {b : Body} {n : Nesting} {u : block.Body → Marks → Own} {w : Sink} {refs : List Bool} {opens : Option Purpose} {w' : Sink} {refs' bound' : List Bool}
     → WritesOwn deep b (StandsAt n.depth) u w refs opens w' refs' bound' → WritesOwn deep b (StandsIn n) u w refs opens w' refs' bound'
-own_nested p = record { lines = λ d f i fs s. p.lines d f i fs s.depth; frame = p.frame; bound = p.bound }
+own_nested p = record { same = p.same; lines = λ d f i fs s. p.lines d f i fs s.depth; frame = p.frame; bound = p.bound }
 
 module _ {deep : Type 0} {b : Body} {w : Sink} {refs : List Bool} where
-  pub own_nothing : {inside : List Frame → Type 0} {bound : List Bool} → WritesOwn deep b inside (λ x. nothing_written x (set_of bound)) w refs none w refs bound
+  pub own_nothing : {inside : List Frame → Type 0} {bound : List Bool} → WritesOwn deep b inside (λ c x. nothing_written x (set_of bound)) w refs none w refs bound
   unfolding nothing_written
-  own_nothing = record { lines = λ d f i fs x. lines_none; frame = λ x. refl; bound = λ x. refl }
+  own_nothing = record { same = (refl, refl, refl); lines = λ d f i fs x. lines_none; frame = λ c x. refl; bound = λ c x. refl }
 
   -- a line that opens a frame: its indentation, its words, its end
-  pub own_opening : {depth : ℕ} {w₁ w₂ w' : Sink} {refs' bound' : List Bool} {p : Purpose} (l : Marks) {m : Marks} {v : Writer}
-      → Writes (spaces (4 * depth)) w w₁ → (deep → Fits b → Emits (env_in b) depth v w₁ (set_of refs) w₂ (set_of refs')) → Writes (10 ∷ []) w₂ w'
-      → set_of bound' ≡ m → WritesOwn deep b (StandsAt depth) (λ x. opening p l m (said v x)) w refs (some p) w' refs' bound'
+  pub own_opening : {depth : ℕ} {w₁ w₂ w' : Sink} {refs' bound' : List Bool} {p : Purpose} (l : Marks) (v : block.Body → Writer) {m : Marks}
+      → Writes (spaces (4 * depth)) w w₁ → WritesWords deep b depth (v (body_told b)) w₁ refs w₂ refs' → Writes (10 ∷ []) w₂ w'
+      → set_of bound' ≡ m → WritesOwn deep b (StandsAt depth) (λ c x. opening p l m (said (v c) x)) w refs (some p) w' refs' bound'
   unfolding opening
-  own_opening l {v = v} x y z h = record { lines = λ d f i fs t. lines_words {v = v} t x (y d f) z; frame = λ r. refl; bound = λ r. h }
+  own_opening l v x y z h = record { same = line_sink x y.same z; lines = λ d f i fs t. lines_words {v = v (body_told b)} t x (y.words d f) z; frame = λ c r. refl; bound = λ c r. h }
 
 -- A MATCH, by its arms
 
@@ -104,11 +105,11 @@ module _ (c : block.Body) (m : Marks) (l q : ℕ) where
 
 -- the same where the rows from row `first` up to row `last` stand after it
 module _ (b : Body) (m : Marks) (l first last q : ℕ) where
-  abbrev of_match : Marks → Own
-  of_match x = emit_check (body_told b) x m l (Match q) (rows_in b last first)
+  abbrev of_match : block.Body → Marks → Own
+  of_match c x = emit_check c x m l (Match q) (rows_in b last first)
 
-  pub match_of_none : Absent ≡ arms_in l (rows_in b last first) → (x : Marks) → of_match x ≡ nothing_written x m
-  match_of_none = match_absent (body_told b) m l q (rows_in b last first)
+  pub match_of_none : Absent ≡ arms_in l (rows_in b last first) → (c : block.Body) (x : Marks) → of_match c x ≡ nothing_written x m
+  match_of_none h c = match_absent c m l q (rows_in b last first) h
 
   -- the first of them is an arm where there are any
   first_arm : (Absent ≡ arms_in l (rows_in b last first) → ⊥) → rows_in b last first ≡ arm (nth (row_in b first) 0) (constraint_of (row_in b first)) (pattern_in b first) ∷ rows_in b last (first + 1)
@@ -121,11 +122,11 @@ module _ (b : Body) (m : Marks) (l first last q : ℕ) where
     by_place true s = absurd (h (arms_absent b.bindings.plan.now.words.now b.bindings.plan.now.rows.now l first last (leb-true last first s)))
     by_place false s = by_kind (leb-false last first s) (ltb (nth (row_in b first) 1) 4) refl
 
-  pub match_of_one : One ≡ arms_in l (rows_in b last first) → (x : Marks) → of_match x ≡ opening one_arm m (bind_all (pattern_in b first) m) (said (one_arm_head (body_told b) (bind_all (pattern_in b first) m) q (constraint_of (row_in b first)) (pattern_in b first)) x)
-  match_of_one h = match_one (body_told b) m l q (first_arm (λ e. none_one (e ∙ sym h))) h
+  pub match_of_one : One ≡ arms_in l (rows_in b last first) → (c : block.Body) (x : Marks) → of_match c x ≡ opening one_arm m (bind_all (pattern_in b first) m) (said (one_arm_head c (bind_all (pattern_in b first) m) q (constraint_of (row_in b first)) (pattern_in b first)) x)
+  match_of_one h c = match_one c m l q (first_arm (λ e. none_one (e ∙ sym h))) h
 
-  pub match_of_several : Several ≡ arms_in l (rows_in b last first) → (x : Marks) → of_match x ≡ opening (arms_of q) m m (said (match_head (body_told b) m q (constraint_of (row_in b first))) x)
-  match_of_several h = match_several (body_told b) m l q (first_arm (λ e. none_several (e ∙ sym h))) h
+  pub match_of_several : Several ≡ arms_in l (rows_in b last first) → (c : block.Body) (x : Marks) → of_match c x ≡ opening (arms_of q) m m (said (match_head c m q (constraint_of (row_in b first))) x)
+  match_of_several h c = match_several c m l q (first_arm (λ e. none_several (e ∙ sym h))) h
 
 -- A LOOP
 

@@ -21,7 +21,7 @@ use view::buffers::Plan;
 use view::environment::FunctionKind;
 
 // The type of the buffer: an external term's own, and one for all internal terms.
-fn put_buffer(w: &mut Sink<'_>, plan: &Plan<'_>, sig: ExternalSig)
+fn put_buffer(w: &mut Sink<'_>, plan: &Plan<'_, '_, '_>, sig: ExternalSig)
     ensures { let env = env_of plan.now in (d : ℕ) → Shows env d (buffer_type (is_external (function_told sig.func)) (sig_told env sig).func_name) w.old w.new }
 {
     match sig.func {
@@ -47,7 +47,7 @@ fn let_value(w: &mut Sink<'_>, b: usize)
 }
 
 // A binding that calls a function, with a buffer if it returns many values.
-fn let_call(w: &mut Sink<'_>, plan: &Plan<'_>, depth: usize, sig: ExternalSig, b: usize)
+fn let_call(w: &mut Sink<'_>, plan: &Plan<'_, '_, '_>, depth: usize, sig: ExternalSig, b: usize)
     ensures { let env = env_of plan.now in Shows env depth (let_head b (buffer (sig_told env sig) (function_told sig.func))) w.old w.new }
 {
     match sig.ret_kind {

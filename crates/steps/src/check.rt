@@ -36,7 +36,7 @@ fn emit_equal(
     a: usize,
     b: usize,
 ) -> Option<Purpose>
-    ensures { (l : ℕ) (rs : List Row) → WritesOwn (HasDepth depth a × HasDepth depth b) body.now (StandsAt depth) (check_at body.now (set_of bound.now) l (row.Equal a b) rs) w.old refs.old (opens_told result) w.new refs.new bound.now }
+    ensures { (l : ℕ) (rs : List Row) → WritesOwn (HasDepth depth a × HasDepth depth b) body.now (StandsAt depth) (check_at (set_of bound.now) l (row.Equal a b) rs) w.old refs.old (opens_told result) w.new refs.new bound.now }
 {
     w.put_indent(depth);
     equal_head(w, body, refs, bound, depth, a, b);
@@ -52,7 +52,7 @@ fn emit_loop(
     depth: usize,
     r: usize,
 ) -> Option<Purpose>
-    ensures { (refs : List Bool) (l : ℕ) (rs : List Row) → WritesOwn (Unit {0}) body.now (StandsAt depth) (check_at body.now (set_of bound.old) l (row.Loop r) rs) w.old refs (opens_told result) w.new refs bound.new }
+    ensures { (refs : List Bool) (l : ℕ) (rs : List Row) → WritesOwn (Unit {0}) body.now (StandsAt depth) (check_at (set_of bound.old) l (row.Loop r) rs) w.old refs (opens_told result) w.new refs bound.new }
 {
     let q = word_in(body.bindings.sources(r), 0) as usize;
     insert(bound, r);
@@ -78,7 +78,7 @@ fn know_words(row: &[u32])
 }
 
 // What row r, a step, does: the numbers of its bindings are words of the plan.
-fn control_flow_at(plan: &Plan<'_>, r: usize) -> ControlFlow
+fn control_flow_at(plan: &Plan<'_, '_, '_>, r: usize) -> ControlFlow
     ensures told { control_flow_told result ≡ control_flow_of (words_of plan.now r) }
     ensures small { SmallFlow (control_flow_told result) }
 {
@@ -96,7 +96,7 @@ pub fn emit_check(
     r: usize,
     last: usize,
 ) -> Option<Purpose>
-    ensures { let b = body.now in WritesOwn (nesting.depth < 4294967296) b (StandsIn nesting) (check_at b (set_of bound.old) (nth (row_in b r) 0) (control_flow_of (row_in b r)) (rows_in b last (r + 1))) w.old refs.old (opens_told result) w.new refs.new bound.new }
+    ensures { let b = body.now in WritesOwn (nesting.depth < 4294967296) b (StandsIn nesting) (check_at (set_of bound.old) (nth (row_in b r) 0) (control_flow_of (row_in b r)) (rows_in b last (r + 1))) w.old refs.old (opens_told result) w.new refs.new bound.new }
 {
     let depth = nesting.depth;
     match control_flow_at(body.bindings.plan, r) {

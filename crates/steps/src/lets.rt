@@ -38,7 +38,7 @@ fn emit_let(
     depth: usize,
     b: usize,
 )
-    ensures { WritesOwn (HasDepth depth b) body.now (StandsAt depth) (lets_at body.now (set_of bound.old) (b ∷ [])) w.old refs.old none w.new refs.new bound.new }
+    ensures { WritesOwn (HasDepth depth b) body.now (StandsAt depth) (lets_at (set_of bound.old) (b ∷ [])) w.old refs.old none w.new refs.new bound.new }
 {
     w.put_indent(depth);
     let_line(w, body, refs, bound, depth, b);
@@ -55,7 +55,7 @@ pub fn emit_lets(
     depth: usize,
     r: usize,
 )
-    ensures { WritesOwn (depth < 4294967296) body.now (StandsAt depth) (lets_at body.now (set_of bound.old) (drop 7 (row_in body.now r))) w.old refs.old none w.new refs.new bound.new }
+    ensures { WritesOwn (depth < 4294967296) body.now (StandsAt depth) (lets_at (set_of bound.old) (drop 7 (row_in body.now r))) w.old refs.old none w.new refs.new bound.new }
 {
     for b in body.bindings.plan.list(r, BLOCK_HEAD) {
         emit_let(w, body, refs, bound, depth, *b as usize);

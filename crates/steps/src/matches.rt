@@ -65,7 +65,7 @@ pub fn emit_match(
     last: usize,
     q: usize,
 ) -> Option<Purpose>
-    ensures { let b = body.now in WritesOwn (HasDepth depth q) b (StandsAt depth) (check_at b (set_of bound.old) level (row.Match q) (rows_in b last first)) w.old refs.old (opens_told result) w.new refs.new bound.new }
+    ensures { let b = body.now in WritesOwn (HasDepth depth q) b (StandsAt depth) (check_at (set_of bound.old) level (row.Match q) (rows_in b last first)) w.old refs.old (opens_told result) w.new refs.new bound.new }
 {
     let arms = arms_of(body.bindings.plan, level, first, last);
     match arms {

@@ -1,18 +1,16 @@
 // A return, with its rule, logging and limit: codegen.rs 816.
-ghost use Rattle.std.specs.Prelude.{ℕ, [], List};
-ghost use Rattle.std.proofs.Math.Option.{some, none};
+ghost use Rattle.std.specs.Prelude.{[]};
+ghost use Rattle.std.proofs.Math.Option.{none};
 ghost use Rattle.text.specs.Writes.{Writes};
 ghost use Rattle.plan.specs.Plan.{Environment};
-ghost use Rattle.codegen.specs.Block.{Frame, log_lines, return_line, returning};
+ghost use Rattle.codegen.specs.Block.{log_lines, return_line, returning};
 ghost use Rattle.codegen.specs.ReturnKind.{by_return_kind};
-ghost use Rattle.codegen.specs.Writer.{Marks};
 ghost use Rattle.emits.specs.Marks.{set_of};
 ghost use Rattle.sema.specs.Signature.{return_kind_told};
 ghost use Rattle.body.specs.Told.{env_in, body_told, StandsAt, StandsIn};
-ghost use Rattle.body.specs.Lines.{LinesLead};
 ghost use Rattle.body.specs.Own.{WritesOwn};
 ghost use Rattle.body.specs.Words.{HasDepth, WritesWords};
-ghost use Rattle.steps.specs.ReturnLines.{rule_lines, overflow_lines};
+ghost use Rattle.steps.specs.ReturnLines.{rule_lines, overflow_lines, WritesLines};
 
 use body::Body;
 use context::block::put_iter_overflow_action;
@@ -25,7 +23,7 @@ use text::sink::Sink;
 
 // Where the rule stands.
 fn put_rule(w: &mut Sink<'_>, body: &Body<'_>, depth: usize, p: usize)
-    ensures { (i : ℕ) (fs : List Frame) (q : Marks) → StandsAt depth fs → LinesLead (env_in body.now) (some i) fs (λ x. rule_lines p) (λ x. x) w.old q w.new q }
+    ensures { WritesLines (env_in body.now) (StandsAt depth) (rule_lines p) w.old w.new }
 {
     w.put_indent(depth);
     w.put_bytes(b"// Rule at ");
@@ -35,9 +33,8 @@ fn put_rule(w: &mut Sink<'_>, body: &Body<'_>, depth: usize, p: usize)
 }
 
 // The logging of the rule, if it is asked for.
-#[tactic(auto, using(body::specs::Lines::lines_none), unfolding(codegen::specs::Block::log_lines))]
 fn put_log(w: &mut Sink<'_>, body: &Body<'_>, depth: usize, p: usize)
-    ensures { (i : ℕ) (fs : List Frame) (q : Marks) → StandsAt depth fs → LinesLead (env_in body.now) (some i) fs (λ x. log_lines (body_told body.now) p) (λ x. x) w.old q w.new q }
+    ensures { WritesLines (env_in body.now) (StandsAt depth) (log_lines (body_told body.now) p) w.old w.new }
 {
     if body.log {
         w.put_indent(depth);
@@ -80,7 +77,7 @@ fn return_line(
 
 // codegen.rs 891: inside a closure the function around it has to return too.
 fn put_overflow(w: &mut Sink<'_>, nesting: Nesting)
-    ensures { (env : Environment) (i : ℕ) (fs : List Frame) (q : Marks) → StandsIn nesting fs → LinesLead env (some i) fs (λ x. overflow_lines) (λ x. x) w.old q w.new q }
+    ensures { (env : Environment) → WritesLines env (StandsIn nesting) overflow_lines w.old w.new }
 {
     w.put_indent(nesting.depth);
     w.put_bytes(b"if returns.len() >= MAX_ISLE_RETURNS { ");
@@ -90,9 +87,8 @@ fn put_overflow(w: &mut Sink<'_>, nesting: Nesting)
 }
 
 // Where many values are returned, their number has a limit.
-#[tactic(auto, using(body::specs::Lines::lines_none), unfolding(codegen::specs::ReturnKind::by_return_kind))]
 fn put_limit(w: &mut Sink<'_>, kind: ReturnKind, nesting: Nesting)
-    ensures { (env : Environment) (i : ℕ) (fs : List Frame) (q : Marks) → StandsIn nesting fs → LinesLead env (some i) fs (λ x. by_return_kind (return_kind_told kind) overflow_lines [] []) (λ x. x) w.old q w.new q }
+    ensures { (env : Environment) → WritesLines env (StandsIn nesting) (by_return_kind (return_kind_told kind) overflow_lines [] []) w.old w.new }
 {
     match kind {
         ReturnKind::Iterator => put_overflow(w, nesting),
@@ -111,7 +107,7 @@ pub fn emit_return(
     r: usize,
     p: usize,
 )
-    ensures { WritesOwn (HasDepth nesting.depth r) body.now (StandsIn nesting) (λ q. returning (body_told body.now) (set_of bound.now) r p q) w.old refs.old none w.new refs.new bound.now }
+    ensures { WritesOwn (HasDepth nesting.depth r) body.now (StandsIn nesting) (λ c q. returning c (set_of bound.now) r p q) w.old refs.old none w.new refs.new bound.now }
 {
     let depth = nesting.depth;
     put_rule(w, body, depth, p);

@@ -1,15 +1,16 @@
 -- A part of a buffer that a text was copied into: as much of the text as the buffer has room for. Assumes nothing.
 use Rattle.std.specs.Prelude.{ℕ, ◌+◌, ◌-◌, ◌≤◌, ◌<◌, min, ◌≡◌, refl, Bool, true, false, List, ◌++◌, ltb, length, replicate, take, drop}
-use Rattle.std.proofs.Common.{sym, ◌∙◌, arith, length-take-le, take_all, ltb-true, ltb-false}
+use Rattle.std.proofs.Common.{sym, ap, ◌∙◌, arith, length-take-le, take_all, ltb-true, ltb-false}
 use Rattle.std.proofs.lemmas.List.{take-append-drop, take-replicate}
 use Rattle.std.proofs.lemmas.List.Edits.{sets, sets-eq}
 use Rattle.std.proofs.lemmas.Slice.{put_mid-paste}
+use Rattle.std.proofs.Math.Seq.{length-sets}
 use borrow.Rule.Slice.PartMut.{put_mid}
 use borrow.Rule.Slice.Mut.{set_vals}
-use Rattle.text.specs.Sink.{spaces}
+use Rattle.text.specs.Sink.{Puts, spaces}
 use Rattle.text.specs.Writes.{Writes, writes_nil, writes_over}
 use Rattle.text.specs.declared.sink.Sink.{Sink}
-use Rattle.text.specs.SinkLaws.{puts_held, sets_out, sets_take, part_cut}
+use Rattle.text.specs.SinkLaws.{puts_held, puts_past, sets_out, sets_take, part_cut}
 
 -- past the buffer's end there is no room
 outside : (o t : List ℕ) (at k : ℕ) → length o ≤ at → k ≡ 0 → put_mid (length o) k o (take k t) ≡ sets o at t
@@ -39,9 +40,24 @@ pub taken_spaces : (n k m : ℕ) → m ≡ k → k ≤ n → replicate m 32 ≡ 
 unfolding spaces
 taken_spaces n k m q h = rw (q, take-replicate {X = ℕ} k n 32 h)
 
+-- a text that is put from below the end: where it goes past the room, nothing more is said of the buffer
+pub writes_held : {t : List ℕ} {w : Sink} {at : ℕ} {o : List ℕ} → w.at < w.end → at ≡ w.at + length t → o ≡ sets w.out.now w.at t → Writes t w (record { out = set_vals o w.out; at = at; end = w.end; odd = w.odd })
+writes_held {t} {w} h a d = record { buffer = refl; size = rw d (length-sets w.out.now w.at t); end = refl; odd = refl; puts = puts_held h d a }
+
+-- of a text, as many bytes as are below the end: the text goes past the room, or those are all of it
+pub writes_short : {n : ℕ} (t : List ℕ) {w : Sink} {o : List ℕ} → n ≡ min (length t) (w.end - w.at) → n < length t → o ≡ sets w.out.now w.at (take n t) → Writes t w (record { out = set_vals o w.out; at = w.end; end = w.end; odd = w.odd })
+writes_short {n} t {w} m l d = record { buffer = refl; size = rw d (length-sets w.out.now w.at (take n t)); end = refl; odd = refl; puts = puts_past (omega arith) (omega arith) }
+
+pub writes_all : {n : ℕ} (t : List ℕ) {w : Sink} {at : ℕ} {o : List ℕ} → n ≡ min (length t) (w.end - w.at) → length t ≤ n → at ≡ w.at + n → o ≡ sets w.out.now w.at (take n t) → Writes t w (record { out = set_vals o w.out; at = at; end = w.end; odd = w.odd })
+writes_all {n} t {w} {at} {o} m l a d = record { buffer = refl; size = rw d (length-sets w.out.now w.at (take n t)); end = refl; odd = refl; puts = go (ltb w.at w.end) refl }
+  where
+    go : (b : Bool) → ltb w.at w.end ≡ b → Puts w.end t w.out.now w.at o at
+    go true r = puts_held (ltb-true w.at w.end r) (d ∙ ap (sets w.out.now w.at) (take_all n t l)) (omega arith)
+    go false r = let s : w.end ≤ w.at = ltb-false w.at w.end r in puts_past (omega arith) (omega arith)
+
 -- a text of n bytes that has room, and one that has not; w₁ is the sink that went n bytes on
 pub writes_stored : {t : List ℕ} {n at : ℕ} {w w₁ : Sink} {o : List ℕ} → (at ≡ w.at) × (w.at + n < w.end) × (w₁.at ≡ w.at + n) → length t ≡ n → (w₁.out ≡ w.out) × (w₁.end ≡ w.end) × (w₁.odd ≡ w.odd) → o ≡ sets w₁.out.now at t → Writes t w (record { out = set_vals o w₁.out; at = w₁.at; end = w₁.end; odd = w₁.odd })
-writes_stored {t} {n} {at} {w} {w₁} a l s d = rw (s.0, s.1, s.2, a.2) (record { buffer = refl; end = refl; odd = refl; puts = puts_held (omega (arith, a.1)) (rw (s.0, a.0) at d) (rw l refl) })
+writes_stored {t} {n} {at} {w} {w₁} a l s d = rw (s.0, s.1, s.2, a.2) (record { buffer = refl; size = rw (d, s.0) (length-sets w.out.now at t); end = refl; odd = refl; puts = puts_held (omega (arith, a.1)) (rw (s.0, a.0) at d) (rw l refl) })
 
 pub writes_past : {t : List ℕ} {n : ℕ} {w w₁ : Sink} → length t ≡ n → (w.end ≤ w.at + n) × (w₁.at ≡ w.end) → (w₁.out ≡ w.out) × (w₁.end ≡ w.end) × (w₁.odd ≡ w.odd) → Writes t w w₁
 writes_past {t} {n} {w} {w₁} l a s = rw (s.0, s.1, s.2, a.1) (writes_over (omega (arith, a.0)))

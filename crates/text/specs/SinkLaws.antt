@@ -1,6 +1,6 @@
 -- Laws of the sink. A caller uses `puts-nil`, `_then_` and `puts-past`; a reader, `puts-fit`, `puts-written`, `puts-room` and `puts-over`.
 use Rattle.std.specs.Prelude.{ℕ, zero, suc, ◌+◌, ◌-◌, ◌≤◌, ◌<◌, min, ◌≡◌, refl, Bool, true, false, List, [], ◌∷◌, ◌++◌, ltb, length, set, take, drop, get_or}
-use Rattle.std.proofs.Common.{sym, ap, ◌∙◌, add-zero, add-suc, suc-add, add_assoc, add-one, arith, length-append, length-set, length-drop, drop_of_length-le, take-suc, take_all, length-take-le, lt-ltb, le-ltb, ltb-true, ltb-false}
+use Rattle.std.proofs.Common.{sym, ap, ◌∙◌, add-zero, add-suc, suc-add, add_assoc, add-one, arith, length-append, length-set, length-drop, drop_of_length-le, take-suc, take_all, length-take-le, lt-ltb, le-ltb, ltb-true, ltb-false, zero-add}
 use Rattle.std.proofs.lemmas.List.{length-replicate, get_or-replicate}
 use Rattle.std.proofs.lemmas.List.Edits.{sets, sets-eq}
 use Rattle.std.proofs.Math.Seq.{length-sets, set_out, take-nil}
@@ -34,6 +34,10 @@ sets_take o at zero [] h = refl
 sets_take o at zero (x ∷ t) h = sym (sets_out o at (x ∷ t) (omega arith))
 sets_take o at (suc n) [] h = refl
 sets_take o at (suc n) (x ∷ t) h = sets_take (set o at x) (suc at) n t (rw length-set (omega arith))
+
+-- the first n bytes of a buffer, at the start of another one
+pub sets_front : (n : ℕ) (d o : List ℕ) → n ≤ length d → n ≤ length o → sets o 0 (take n d) ≡ take n d ++ drop n o
+sets_front n d o h g = let l : length (take n d) ≡ n = length-take-le n d h in let z : 0 + n ≡ n = zero-add n in rw (l, z) at (sets-eq (take n d) o 0 (rw (l, z) g))
 
 put_put : (e : ℕ) (s t : List ℕ) (v : Sink) → put e t (put e s v) ≡ put e (s ++ t) v
 unfolding put

@@ -18,7 +18,7 @@ fn store_byte(out: &mut [u8], at: usize, byte: u8)
 
 // Most texts are a few bytes long: `copy_from_slice` took 2.7 times as long for a line of six of them. The bytes of `out` go by index: after an
 // adapter of `iter_mut` (`zip`) nothing is known of them.
-fn store(out: &mut [u8], at: usize, src: &[u8])
+pub fn store(out: &mut [u8], at: usize, src: &[u8])
     ensures { out.new ≡ sets out.old at src.now }
 {
     let n = src.len().min(out.len().saturating_sub(at));
@@ -77,12 +77,16 @@ impl<'a> Sink<'a> {
         None
     }
 
-    #[tactic(auto, using(crate::proofs::Copies::writes_stored, crate::proofs::Copies::writes_past))]
+    // The byte that goes past the room is stored where the buffer has a place for it, as callers have found it there.
+    #[tactic(auto, using(crate::proofs::Copies::writes_held, crate::specs::Writes::writes_over))]
     pub fn put_byte(&mut self, byte: u8)
         ensures { Writes (byte ∷ []) self.old self.new }
     {
-        if let Some(at) = self.advance(1) {
-            store_byte(self.out, at, byte);
+        if self.at < self.end {
+            store_byte(self.out, self.at, byte);
+            self.at += 1;
+        } else {
+            self.at = self.end;
         }
     }
 
@@ -95,14 +99,29 @@ impl<'a> Sink<'a> {
         }
     }
 
+    // The same, as they are put one by one: where there is no room for all, those up to the room's end are stored, and the one that goes past it.
+    #[tactic(auto, using(crate::proofs::Copies::writes_short, crate::proofs::Copies::writes_all))]
+    fn put_each(&mut self, src: &[u8])
+        ensures { Writes src.now self.old self.new }
+    {
+        let n = src.len().min(self.end.saturating_sub(self.at));
+        store(self.out, self.at, &src[..n]);
+        if n < src.len() {
+            self.at = self.end;
+        } else {
+            self.at += n;
+        }
+    }
+
     // The bytes of text from first up to last: those that there are.
     #[tactic(auto, using(crate::proofs::Copies::writes_no_part))]
+    #[inline(always)]
     pub fn put_part(&mut self, text: &[u8], first: usize, last: usize)
         ensures { Writes (take (last - first) (drop first text.now)) self.old self.new }
     {
         let last = last.min(text.len());
         if first < last {
-            self.put_bytes(&text[first..last]);
+            self.put_each(&text[first..last]);
         }
     }
 

@@ -11,7 +11,7 @@ use super::heads::BINDING_HEAD;
 // Those of this table.
 #[derive(Clone, Copy)]
 pub struct Bindings<'a> {
-    pub plan: &'a Plan<'a>,
+    pub plan: &'a Plan<'a, 'a, 'a>,
     pub table: usize,
 }
 

@@ -23,17 +23,17 @@ use std::ops::Range;
 // end, and `index` where the variants of each type stand (`variants`); before they are indexed it is empty. A plan and a sink stay two
 // parameters of those who write: a plan is only read, and of one value each contract would have to say that the plan in it stays.
 #[derive(Clone, Copy)]
-pub struct Plan<'a> {
-    pub bytes: &'a [u8],
-    pub words: &'a [u32],
-    pub rows: &'a [u32],
-    pub tables: &'a [u32],
-    pub index: &'a [u32],
+pub struct Plan<'p, 'w, 'b> {
+    pub bytes: &'p [u8],
+    pub words: &'w [u32],
+    pub rows: &'b [u32],
+    pub tables: &'b [u32],
+    pub index: &'b [u32],
 }
 
-impl<'a> Plan<'a> {
+impl<'p, 'w, 'b> Plan<'p, 'w, 'b> {
     // The words of row r, for those who read several of them.
-    pub fn row(&self, r: usize) -> &'a [u32]
+    pub fn row(&self, r: usize) -> &'w [u32]
         ensures { result.now ≡ words_of self.now r }
     {
         part(self.words, self.rows, r)
@@ -61,7 +61,7 @@ impl<'a> Plan<'a> {
     }
 
     // The list of row r, which stands after `header` words.
-    pub fn list(&self, r: usize, header: usize) -> &'a [u32]
+    pub fn list(&self, r: usize, header: usize) -> &'w [u32]
         ensures { result.now ≡ drop header (words_of self.now r) }
     {
         list_in(self.row(r), header)
@@ -69,7 +69,7 @@ impl<'a> Plan<'a> {
 
     // The text of row r, whose words are its start and its end in the plan.
     #[tactic(auto, using(crate::proofs::Laws::part_found), unfolding(layout::specs::View::text_of))]
-    pub fn text_at(&self, r: usize) -> &'a [u8]
+    pub fn text_at(&self, r: usize) -> &'p [u8]
         ensures { result.now ≡ text_of self.now.bytes.now (words_of self.now r) }
     {
         let row = self.row(r);

@@ -6,9 +6,9 @@ use Rattle.emits.specs.Sinks.{◌⟫ₛ◌}
 use Rattle.emit_items.proofs.Lists.{nopragmas_is}
 use Rattle.emit_items.proofs.items.Goals as goal
 
-pub returns : goal.returns
+pub returns-clause-shows : goal.returns-clause-shows
 unfolding items
-returns c = λ v.
+returns-clause-shows c = λ v.
     let p = c.args.plan.now in
     rw (environment_is p.words.now p.rows.now p.tables.now p.bytes.now)
-    (c.generate_header.ensures (plan_of p).options (nopragmas_is p c.row_at.ensures.own ∙ sym c.flag-nopragmas.ensures) ⟫ₛ c.generate_ctx_trait.ensures ⟫ₛ c.generate_internal_types.ensures v)
+    (c.generate_header.ensures.shows (plan_of p).options (nopragmas_is p c.row_at.ensures.own ∙ sym c.flag-nopragmas.ensures) ⟫ₛ c.generate_ctx_trait.ensures ⟫ₛ c.generate_internal_types.ensures.shows v)

@@ -1,6 +1,7 @@
-use Rattle.std.specs.Prelude.{◌≡◌, refl, Option, Some, None, Err}
-use Rattle.std.proofs.Common.{arith}
+use Rattle.std.specs.Prelude.{◌≡◌, ◌≤◌, refl, Option, Some, None, Err}
+use Rattle.std.proofs.Common.{◌∙◌, arith}
 use borrow.Author.Rules.{rules}
+use Rattle.text.specs.SinkLaws.{sets_front}
 use Rattle.refusal.specs.declared.Refusal.TheVariants.{Room}
 use Rattle.emitter.specs.declared.Text.{Text}
 use Rattle.emitter.specs.Answered.{Emitted}
@@ -20,7 +21,8 @@ pub returns-then-text-draft : goal.returns-then-text-draft
 unfolding answer_in
 returns-then-text-draft c = λ p h.
     let s : ◌≡◌ {A = Option Text} c.put_measured.result (Some c.in_ok-text.text) = search rules in
-    answers_copied (form_text c.args.form p) (form_count c.args.form p) (form_le c.args.form p) (length c.args.out.now) (rw s at (c.put_measured.ensures.measured p h)) (omega (arith, c.put_measured.auto.out)) (rw c.copy_from_slice.ensures.after refl)
+    let w : c.in_ok-text.text.length ≤ length c.args.out.now = rw s at c.put_measured.ensures.within in
+    answers_copied (form_text c.args.form p) (form_count c.args.form p) (form_le c.args.form p) (length c.args.out.now) (rw s at (c.put_measured.ensures.measured p h)) (omega (arith, c.put_measured.auto.out)) (c.store.ensures ∙ sets_front c.in_ok-text.text.length _ c.args.out.now (omega (arith, c.put_measured.auto.out)) w)
 
 pub returns-else-text-draft : goal.returns-else-text-draft
 unfolding answer_in

@@ -1,4 +1,5 @@
 use Rattle.std.specs.Prelude.{drop}
+use Rattle.text.specs.Writes.{SameSink}
 use Rattle.plan.specs.Lookup.{variants_of}
 use Rattle.view.specs.Buffers.{env_of}
 use Rattle.codegen.specs.Items.{variant_lines}
@@ -10,4 +11,4 @@ abbrev pub invariant-loop-k : goal.invariant-loop-k
 invariant-loop-k l =
     let env = env_of l.plan in
     let variants = variants_of l.ty.0 env.variants in
-    VariantsIndexed l.plan → Left env 0 (variant_lines variants) l.initial.w (variant_lines (drop l.k variants)) l.w
+    SameSink l.initial.w l.w × (VariantsIndexed l.plan → Left env 0 (variant_lines variants) l.initial.w (variant_lines (drop l.k variants)) l.w)

@@ -10,7 +10,7 @@ returns-then-not-bind_all-clause-found c = record {
 }
 
 pub invariant_of-names-then-is_constant : goal.invariant_of-names-then-is_constant
-invariant_of-names-then-is_constant c = record { ready = ready_fresh (c.raise.ensures c.args.names.now.ready.latest) }
+invariant_of-names-then-is_constant c = record { ready = ready_fresh (c.raise.ensures.fresh c.args.names.now.ready.latest) }
 
 pub returns-then-is_constant-clause-found : goal.returns-then-is_constant-clause-found
 returns-then-is_constant-clause-found c = record {
@@ -18,7 +18,7 @@ returns-then-is_constant-clause-found c = record {
 }
 
 pub invariant_of-names-2 : goal.invariant_of-names-2
-invariant_of-names-2 c = record { ready = ready_fresh (c.raise-2.ensures c.uses_own-found.ensures.latest) }
+invariant_of-names-2 c = record { ready = ready_fresh (c.raise-2.ensures.fresh c.uses_own-found.ensures.latest) }
 
 pub returns-clause-found : goal.returns-clause-found
 returns-clause-found c = record {

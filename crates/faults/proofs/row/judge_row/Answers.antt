@@ -9,4 +9,4 @@ returns-then-not-is_step c = judges_arm (words_of c.args.names.now.bindings.plan
 pub returns : goal.returns
 returns c =
     let list = c.list_calls-calls.ensures in
-    judges_step (words_of c.args.names.now.bindings.plan.now c.args.r) _ (sym c.is_step.ensures ∙ c.if-not-is_step.false) (record { bindings = refl; names = list.names }) list.found c.judge_check-s.ensures c.save_names-2.ensures refl refl refl refl
+    judges_step (words_of c.args.names.now.bindings.plan.now c.args.r) _ (sym c.is_step.ensures ∙ c.if-not-is_step.false) (record { bindings = refl; names = list.names; same = list.same }) list.found c.judge_check-s.ensures c.save_names-2.ensures refl refl refl refl

@@ -6,4 +6,4 @@ use Rattle.steps.proofs.check.emit_equal.Goals as goal
 
 pub returns : goal.returns
 unfolding emit_check
-returns c = λ l rs. own_opening (set_of c.args.bound.now) c.put_indent.ensures c.equal_head.ensures c.put_byte.ensures refl
+returns c = λ l rs. own_opening (set_of c.args.bound.now) _ c.put_indent.ensures c.equal_head.ensures c.put_byte.ensures refl

@@ -4,4 +4,4 @@ use Rattle.steps.proofs.CheckLaws.{own_opening}
 use Rattle.steps.proofs.matches.several_arms.Goals as goal
 
 pub returns : goal.returns
-returns c = own_opening (set_of c.args.bound.now) c.put_indent.ensures (λ d f. rw c.constraint_at-k.ensures at (c.match_head.ensures d f)) c.put_byte.ensures refl
+returns c = own_opening (set_of c.args.bound.now) _ c.put_indent.ensures (rw c.constraint_at-k.ensures at c.match_head.ensures) c.put_byte.ensures refl

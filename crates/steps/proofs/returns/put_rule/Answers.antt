@@ -6,4 +6,4 @@ use Rattle.steps.proofs.returns.put_rule.Goals as goal
 
 pub returns : goal.returns
 unfolding odd_pieces odd_piece
-returns c = λ i fs q s. lines_pieces s refl c.put_indent.ensures (shows_fix c.put_bytes.ensures (shows_pos c.put_text.ensures (shows_fix c.put_bytes-2.ensures shows_none))) c.put_byte.ensures
+returns c = lines_pieces refl c.put_indent.ensures (shows_fix c.put_bytes.ensures (shows_pos c.put_text.ensures (shows_fix c.put_bytes-2.ensures shows_none))) c.put_byte.ensures

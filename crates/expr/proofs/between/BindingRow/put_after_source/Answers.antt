@@ -16,8 +16,8 @@ pub returns-in-MakeVariant : goal.returns-in-MakeVariant
 returns-in-MakeVariant c =
     let env = env_of c.args.self.now.plan.now in
     λ d. elim c.in-MakeVariant.is [
-      | inl (n, v, h) ↦ rw h (c.after_field.ensures env d c.args.q _ (sym c.contains.ensures))
-      | inr (n, h) ↦ rw h (c.after_field.ensures env d c.args.q _ (sym c.contains.ensures))
+      | inl (n, v, h) ↦ rw h (c.after_field.ensures.emits env d c.args.q _ (sym c.contains.ensures))
+      | inr (n, h) ↦ rw h (c.after_field.ensures.emits env d c.args.q _ (sym c.contains.ensures))
     ]
 
 pub returns-in_default-binding : goal.returns-in_default-binding

@@ -10,7 +10,7 @@ returns-then-count_sources-i-clause-written c =
     let env = env_of c.args.self.now.plan.now in
     let k = binding_told c.args.self.now.binding in
     let qs = c.args.self.now.sources.now in
-    λ v d₀ d g dp. emits_last (before_source env (inner k d) k) qs (ends env d c.args.self.now.number k qs) (source_count env k qs) c.args.i (rw (← c.count_sources.ensures) c.if-count_sources-i.true) (c.finish.ensures d₀ d _ g)
+    λ v d₀ d g dp. emits_last (before_source env (inner k d) k) qs (ends env d c.args.self.now.number k qs) (source_count env k qs) c.args.i (rw (← c.count_sources.ensures) c.if-count_sources-i.true) (c.finish.ensures.emits d₀ d _ g)
 
 pub returns-clause-written : goal.returns-clause-written
 returns-clause-written c =
@@ -18,4 +18,4 @@ returns-clause-written c =
     let k = binding_told c.args.self.now.binding in
     let qs = c.args.self.now.sources.now in
     λ v d₀ d g dp. emits_next (before_source env (inner k d) k) qs (ends env d c.args.self.now.number k qs) (source_count env k qs) c.args.i (rw (← c.count_sources.ensures) (omega (arith, c.if-count_sources-i.false)))
-    c.contains-given.result (rw (← c.word_in-q.ensures) (sym c.contains-given.ensures)) (c.put_before.ensures v d₀ (inner k d) _ (c.inner_depth-below.ensures dp ∙ inner_plus k d₀ d g))
+    c.contains-given.result (rw (← c.word_in-q.ensures) (sym c.contains-given.ensures)) (c.put_before.ensures.emits v d₀ (inner k d) _ (c.inner_depth-below.ensures dp ∙ inner_plus k d₀ d g))
