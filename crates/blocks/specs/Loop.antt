@@ -42,8 +42,11 @@ pub record BlockWritten (b : Body) (first last places : ℕ) (refs bound : List 
   pub same : SameSink w w'
   pub is : (sp : ℕ → Bool) → Fits b → Splitting sp b.threshold → Shallow b.bindings.plan.now.words.now b.bindings.plan.now.rows.now first last places → WritesWalk (env_in b) (body_told b) sp (standing (set_of bound) 0 []) 0 (rows_in b last first) w (set_of refs) w'
 
--- What is left to write at the sink w, of the rows from row r on and the frames `fs`, m closures having numbers, ends where the whole does.
+-- What is left to write at the sink w, of the rows from row r on and the frames `fs`, m closures having numbers, ends where the whole does; the
+-- lent buffer and the room are those of the start.
 pub record Rest (b : Body) (sp : ℕ → Bool) (first last : ℕ) (w₀ : Sink) (refs₀ bound₀ : List Bool) (fs : List block.Frame) (m r : ℕ) (w : Sink) (refs bound : List Bool) : Type 0 where
+  pub buffer : w.out.ghost_name ≡ w₀.out.ghost_name
+  pub end : w.end ≡ w₀.end
   pub middle : Middle w₀.end (env_in b) (body_told b) sp (standing (set_of bound₀) 0 []) (rows_in b last first) w₀.out.now w₀.at w₀.odd (set_of refs₀) (set_of bound) m fs (r - first) (rows_in b last r) w.out.now w.at w.odd (set_of refs)
 
 -- the open frames are fs, d of them
@@ -75,7 +78,7 @@ module _ {b : Body} {first last : ℕ} {w₀ : Sink} {refs₀ bound₀ : List Bo
     deep = rw h (omega arith);
     few = rw h (omega arith);
     begun = rw h (omega arith);
-    rest = λ sp f y. let z : first - first ≡ 0 = omega arith in rw (h, g, e) (record { middle = rw z (record { is = emitting_start }) });
+    rest = λ sp f y. let z : first - first ≡ 0 = omega arith in rw (h, g, e) (record { buffer = refl; end = refl; middle = rw z (record { is = emitting_start }) });
   })
 
   module _ {fs : List (Frame RowFrame)} {d r : ℕ} {w : Sink} {s : BodyContext} (k : Walking b first last w₀ refs₀ bound₀ fs d r w s) where
@@ -131,6 +134,8 @@ module _ {b : Body} {first last : ℕ} {w₀ : Sink} {refs₀ bound₀ : List Bo
             begun = rw e.split k.begun;
             rest = λ sp z y.
                 record {
+                  buffer = p.buffer ∙ k.same.0;
+                  end = p.end ∙ k.same.2;
                   middle = rw (e.split, p.odd) (middle_close (rw opened at (k.rest sp z y).middle) (not_deeper_last f _ h (rw q at g))
                       (parts_puts (block_odds (frame_told f) (frames_told gs)) (rw (block_is (env_in b) (frames_told gs) (frame_told f), ← stands.depth, ← stands.closure) (rw k.same.2 at p.puts))));
                 };
@@ -154,6 +159,8 @@ module _ {b : Body} {first last : ℕ} {w₀ : Sink} {refs₀ bound₀ : List Bo
           let next : r + 1 - first ≡ suc (r - first) = omega (arith, k.begun) in
           let p = y.row.parts z (r - first) (frames_told fs) k.stands in
           record {
+            buffer = p.buffer ∙ k.same.0;
+            end = p.end ∙ k.same.2;
             middle = rw (e, next, c) (middle_own splits (rw (rows_next b.bindings.plan.now.words.now b.bindings.plan.now.rows.now r last there) at (k.rest sp z v).middle) (inside_last fs (level (block_of (row_in b r))) low deeper)
                 (rw (purpose_last fs) (record { frame = λ q. sym (y.row.frame (body_told b) q); bound = λ q. sym (y.row.bound (body_told b) q); restored = y.outside (body_told b) })) (y.row.weighs sp v)
                 (rw (purpose_last fs) (rw k.same.2 at p.leads)));

@@ -141,7 +141,7 @@ ends_none u n = ends_row false u n (λ sp k. refl) writes_nil
 
 -- a row's lets, then what comes after them
 module _ {b : Body} (p : Purpose) (r last : ℕ) {w : Sink} {s : BodyContext} {w₁ : Sink} {s₁ : BodyContext} {opens : Option Purpose} {splits : Bool} {w' : Sink} {s' : BodyContext}
-    (u : WritesOwn (Unit {0}) b (StandsAt s.nesting.depth) (lets_in b (set_of s.is_bound) r) w s.is_ref none w₁ s₁.is_ref s₁.is_bound) (n : s₁.nesting ≡ s.nesting) (v : WritesRow b (check_in b (set_of s₁.is_bound) p r last) (weight_in b r last) w₁ s₁ opens splits w' s') where
+    (u : WritesOwn (Unit {0}) b (StandsIn s.nesting) (lets_in b (set_of s.is_bound) r) w s.is_ref none w₁ s₁.is_ref s₁.is_bound) (n : s₁.nesting ≡ s.nesting) (v : WritesRow b (check_in b (set_of s₁.is_bound) p r last) (weight_in b r last) w₁ s₁ opens splits w' s') where
   writes_row : WritesRow b (own_in b (set_of s.is_bound) p r last) (weight_in b r last) w s opens splits w' s'
   unfolding joined row_parts
   writes_row =
@@ -152,7 +152,7 @@ module _ {b : Body} (p : Purpose) (r last : ℕ) {w : Sink} {s : BodyContext} {w
         parts = λ f i fs k. leads_same
             (rw (own_joined (body_told b) (set_of s.is_ref) (set_of s.is_bound) p row rs, place_append, append_assoc, ← u.bound (body_told b) (set_of s.is_ref)))
             (rw (own_joined (body_told b) (set_of s.is_ref) (set_of s.is_bound) p row rs, ← u.bound (body_told b) (set_of s.is_ref)))
-            ((u.lines tt f i fs k.depth).is ⟫ₗ v.parts f i fs (rw n k));
+            ((u.lines tt f i fs k).is ⟫ₗ v.parts f i fs (rw n k));
         frame = λ c q. rw (own_joined c q (set_of s.is_bound) p row rs, ← u.bound c q) (v.frame c (lets c (bind_order row) q (set_of s.is_bound)).refs);
         bound = λ c q. rw (own_joined c q (set_of s.is_bound) p row rs, ← u.bound c q) (v.bound c (lets c (bind_order row) q (set_of s.is_bound)).refs);
         nesting = v.nesting ∙ n;

@@ -2,6 +2,7 @@
 use Rattle.std.specs.Prelude.{ℕ, suc, ◌+◌, ◌-◌, ◌≤◌, ◌<◌, ◌≡◌, true, false, List, [], ◌∷◌, ◌++◌, length, take, drop, get_or}
 use lib.Seq.{get_or-drop}
 use Rattle.std.proofs.Common.{sym, ap, ◌∙◌, arith, append-nil, append_assoc, take-suc, take_all, length-drop}
+use Rattle.std.proofs.Math.Nat.{sub_self}
 use Rattle.text.specs.Writes.{Writes, writes_nil, writes_then}
 use Rattle.text.specs.declared.sink.Sink.{Sink}
 use Rattle.literal.specs.Quote.{backslash, escaped}
@@ -27,15 +28,24 @@ part_more t i first h g =
 
 module _ {t : List ℕ} {i first : ℕ} {w₀ w : Sink} (e : Escaping t i first w₀ w) where
   -- a byte that has a backslash before it
-  pub escaping_mark : {w₁ w₂ w₃ : Sink} → i < length t → is_escaped (get_or t i 0) ≡ true → Writes (take (i - first) (drop first t)) w w₁ → Writes (backslash ∷ []) w₁ w₂ → Writes (get_or t i 0 ∷ []) w₂ w₃ → Escaping t (i + 1) (i + 1) w₀ w₃
-  escaping_mark h q p r s = record {
-    text = ((e.text ++ take (i - first) (drop first t)) ++ (backslash ∷ [])) ++ (get_or t i 0 ∷ []);
-    written = writes_then (writes_then (writes_then e.written p) r) s;
-    is =
-        let z : i + 1 - (i + 1) ≡ 0 = omega arith in
-        rw (z, append-nil, e.is, append_assoc) (sym (escaped_more t i h ∙ ap (λ (s : List ℕ). escaped (take i t) ++ s) (escaped_mark (get_or t i 0) q)));
+  pub escaping_mark : {w₁ w₂ : Sink} → i < length t → is_escaped (get_or t i 0) ≡ true → Writes (take (i - first) (drop first t)) w w₁ → Writes (backslash ∷ []) w₁ w₂ → Escaping t (i + 1) i w₀ w₂
+  escaping_mark h q p r = record {
+    text = (e.text ++ take (i - first) (drop first t)) ++ (backslash ∷ []);
+    written = writes_then (writes_then e.written p) r;
+    is = rw (part_more t i i (omega arith) h, sub_self i, e.is, append_assoc) (sym (escaped_more t i h ∙ ap (λ (s : List ℕ). escaped (take i t) ++ s) (escaped_mark (get_or t i 0) q)));
     begun = omega arith;
   }
+
+  -- the same, where the byte is put with its backslash
+  pub escaping_pair : {w₁ w₂ w₃ : Sink} → i < length t → is_escaped (get_or t i 0) ≡ true → Writes (take (i - first) (drop first t)) w w₁ → Writes (backslash ∷ []) w₁ w₂ → Writes (get_or t i 0 ∷ []) w₂ w₃ → Escaping t (i + 1) (i + 1) w₀ w₃
+  escaping_pair h q p r s =
+      let m = escaping_mark h q p r in
+      record {
+        text = m.text ++ (get_or t i 0 ∷ []);
+        written = writes_then m.written s;
+        is = rw (sub_self (i + 1), append-nil) (rw (part_more t i i (omega arith) h, sub_self i) at m.is);
+        begun = omega arith;
+      }
 
   -- another byte
   pub escaping_other : i < length t → is_escaped (get_or t i 0) ≡ false → Escaping t (i + 1) first w₀ w

@@ -1,6 +1,6 @@
 -- The lines of a return that go by no mark. Assumes nothing.
 use Rattle.std.specs.Prelude.{refl, List, [], ◌∷◌, ℕ}
-use Rattle.std.proofs.Math.Option.{some}
+use Rattle.std.proofs.Math.Option.{Option}
 use Rattle.text.specs.Writes.{SameSink}
 use Rattle.text.specs.declared.sink.Sink.{Sink}
 use Rattle.plan.specs.Plan.{Environment}
@@ -16,10 +16,11 @@ rule_lines p = words (fix "// Rule at " refl ∷ pos p ∷ fix "." refl ∷ []) 
 abbrev pub overflow_lines : List Line
 overflow_lines = overflow ∷ []
 
--- the lines ls of a row lead from the sink w to w' inside such frames; that the lent buffer and the room are the same holds anywhere
+-- the lines ls of a row, or of none, lead from the sink w to w' inside such frames; that the lent buffer and the room are the same holds
+-- anywhere
 pub record WritesLines (env : Environment) (inside : List Frame → Type 0) (ls : List Line) (w w' : Sink) : Type 0 where
   pub same : SameSink w w'
-  pub lines : (i : ℕ) (fs : List Frame) (q : Marks) → inside fs → LinesLead env (some i) fs (λ x. ls) (λ x. x) w q w' q
+  pub lines : (i : Option ℕ) (fs : List Frame) (q : Marks) → inside fs → LinesLead env i fs (λ x. ls) (λ x. x) w q w' q
 
 pub no_lines : {env : Environment} {inside : List Frame → Type 0} {w : Sink} → WritesLines env inside [] w w
 no_lines = record { same = (refl, refl, refl); lines = λ i fs q s. lines_none }
